@@ -22,23 +22,23 @@ walk_in g h all _ _ _ (along {u} {v} {w} {sum} {tokens} walk (k, arc, inside, is
     along (walk_in g h all u v sum walk) (at.0, arc, at.1, at.2, p)
 
 -- where all arcs are closed, a walk is found
-pub reaches : (arcs : List Arc) (events levels : ℕ) (masks : List ℕ) → AreAllClosed arcs events levels levels masks → (bit u v sum : ℕ)
-    → Walk (along_arcs arcs) u v sum → IsReachedAt events masks 0 u bit → sum < levels → IsReachedAt events masks sum v bit
-reaches arcs events levels masks closed bit _ _ _ stay start low = start
-reaches arcs events levels masks closed bit _ _ _ (along {u} {v} {w} {sum} {tokens} walk (k, arc, inside, is, (source, target, few))) start low =
-    let before : IsReachedAt events masks sum v bit = reaches arcs events levels masks closed bit u v sum walk start (omega arith) in
-    let step : IsClosedAt events levels masks sum arc = All-contains (IsClosedAt events levels masks sum) arcs arc (closed sum (omega arith)) (k, inside, is) in
+pub reaches : (arcs : List Arc) (events bound : ℕ) (masks : List ℕ) → AreAllClosed arcs events bound bound masks → (bit u v sum : ℕ)
+    → Walk (along_arcs arcs) u v sum → IsReachedAt events masks 0 u bit → sum < bound → IsReachedAt events masks sum v bit
+reaches arcs events bound masks closed bit _ _ _ stay start low = start
+reaches arcs events bound masks closed bit _ _ _ (along {u} {v} {w} {sum} {tokens} walk (k, arc, inside, is, (source, target, few))) start low =
+    let before : IsReachedAt events masks sum v bit = reaches arcs events bound masks closed bit u v sum walk start (omega arith) in
+    let step : IsClosedAt events bound masks sum arc = All-contains (IsClosedAt events bound masks sum) arcs arc (closed sum (omega arith)) (k, inside, is) in
     let there : IsReachedAt events masks (sum + arc.tokens) arc.target bit = step (omega arith) bit (subst (λ (v : ℕ). IsReachedAt events masks sum v bit) (sym source) before) in
     subst (λ (t : ℕ). IsReachedAt events masks (sum + t) w bit) few (subst (λ (w : ℕ). IsReachedAt events masks (sum + arc.tokens) w bit) target there)
 
 -- the masks before the first sweep are walks without arcs
-pub begun_walks : (arcs : List Arc) (sources : List ℕ) (events levels : ℕ) (masks : List ℕ) → ((b : ℕ) → b < length sources → get_or sources b 0 < events)
-    → AreBegun sources (length sources) masks → AreWalks arcs sources events levels masks
-begun_walks arcs sources events levels masks near begun level v bit low near_v reached =
-    let is = (begun (level * events + v) bit).0 reached in
+pub begun_walks : (arcs : List Arc) (sources : List ℕ) (events bound : ℕ) (masks : List ℕ) → ((b : ℕ) → b < length sources → get_or sources b 0 < events)
+    → AreBegun sources (length sources) masks → AreWalks arcs sources events bound masks
+begun_walks arcs sources events bound masks near begun token_sum v bit low near_v reached =
+    let is = (begun (token_sum * events + v) bit).0 reached in
     let inside : bit < length sources = is.0 in
-    let at : get_or sources bit 0 ≡ level * events + v = is.1 in
-    let same : (level ≡ 0) × (v ≡ get_or sources bit 0) = one_place events level v 0 (get_or sources bit 0) near_v (near bit inside) (sym at ∙ zero_place (get_or sources bit 0) events) in (
+    let at : get_or sources bit 0 ≡ token_sum * events + v = is.1 in
+    let same : (token_sum ≡ 0) × (v ≡ get_or sources bit 0) = one_place events token_sum v 0 (get_or sources bit 0) near_v (near bit inside) (sym at ∙ zero_place (get_or sources bit 0) events) in (
       inside,
       subst (λ (l : ℕ). Walk (along_arcs arcs) (get_or sources bit 0) v l) (sym same.0)
           (subst (λ (v : ℕ). Walk (along_arcs arcs) (get_or sources bit 0) v 0) (sym same.1) stay),
@@ -54,21 +54,21 @@ begun_starts sources events masks begun b inside =
     ap (λ (i : ℕ). bit_at (get_or masks i 0) b) e ∙ (begun (get_or sources b 0) b).1 (inside, refl)
 
 -- orders of a block
-module _ (arcs : List Arc) (events levels : ℕ) (masks : List ℕ) (asked : List Arc) (from : ℕ) (sources bits : List ℕ)
-    (ends : AreEnds events asked) (tokens : All (λ arc. arc.tokens < levels) asked) (block : IsBlock asked from sources bits)
-    (walks : AreWalks arcs sources events levels masks) where
+module _ (arcs : List Arc) (events bound : ℕ) (masks : List ℕ) (asked : List Arc) (from : ℕ) (sources bits : List ℕ)
+    (ends : AreEnds events asked) (tokens : All (λ arc. arc.tokens < bound) asked) (block : IsBlock asked from sources bits)
+    (walks : AreWalks arcs sources events bound masks) where
   -- an order that is found is given
   given_at : (k : ℕ) (d : Arc) → k < length bits → IsFoundBy events masks (get_or asked (from + k) d) (get_or bits k 0) → IsGiven (along_arcs arcs) (get_or asked (from + k) d)
-  given_at k d inside (level, low, reached) =
+  given_at k d inside (token_sum, low, reached) =
       let order : Arc = get_or asked (from + k) d in
       let place : from + k < length asked = omega (arith, block.size) in
       let near = ends (from + k) d place in
       let few = tokens (from + k) d place in
-      let walk = walks level order.target (get_or bits k 0) (omega arith) near.1 reached in
-      (level, low, subst (λ (u : ℕ). Walk (along_arcs arcs) u order.target level) (block.has_source k inside d) walk.1)
+      let walk = walks token_sum order.target (get_or bits k 0) (omega arith) near.1 reached in
+      (token_sum, low, subst (λ (u : ℕ). Walk (along_arcs arcs) u order.target token_sum) (block.has_source k inside d) walk.1)
 
   -- one that is not found is not given, where all arcs are closed
-  not_given_at : AreAllClosed arcs events levels levels masks → ((b : ℕ) → b < length sources → IsReachedAt events masks 0 (get_or sources b 0) b)
+  not_given_at : AreAllClosed arcs events bound bound masks → ((b : ℕ) → b < length sources → IsReachedAt events masks 0 (get_or sources b 0) b)
       → (k : ℕ) (d : Arc) → k < length bits → ¬ IsFoundBy events masks (get_or asked (from + k) d) (get_or bits k 0) → ¬ IsGiven (along_arcs arcs) (get_or asked (from + k) d)
   not_given_at closed starts k d inside none (sum, low, walk) =
       let order : Arc = get_or asked (from + k) d in
@@ -76,7 +76,7 @@ module _ (arcs : List Arc) (events levels : ℕ) (masks : List ℕ) (asked : Lis
       let few = tokens (from + k) d place in
       let bit : ℕ = get_or bits k 0 in
       let start : IsReachedAt events masks 0 order.source bit = subst (λ (u : ℕ). IsReachedAt events masks 0 u bit) (block.has_source k inside d) (starts bit (block.has_bit k inside)) in
-      none (sum, low, reaches arcs events levels masks closed bit order.source order.target sum walk start (omega arith))
+      none (sum, low, reaches arcs events bound masks closed bit order.source order.target sum walk start (omega arith))
 
   shifted : (P : Arc → Type 0) (k : ℕ) (d : Arc) → from ≤ k → P (get_or asked (from + (k - from)) d) → P (get_or asked k d)
   shifted P k d low p = (let e : from + (k - from) ≡ k = omega arith in subst (λ (i : ℕ). P (get_or asked i d)) e p)
@@ -93,7 +93,7 @@ module _ (arcs : List Arc) (events levels : ℕ) (masks : List ℕ) (asked : Lis
   unmet_none_by (Some place) e all = absurd (false≢true (sym e))
 
   -- after a sweep without a change, the first that is not found is the first that is not given
-  pub unmet_first : AreAllClosed arcs events levels levels masks → ((b : ℕ) → b < length sources → IsReachedAt events masks 0 (get_or sources b 0) b)
+  pub unmet_first : AreAllClosed arcs events bound bound masks → ((b : ℕ) → b < length sources → IsReachedAt events masks 0 (get_or sources b 0) b)
       → (first : Option ℕ) → IsFirstNotFound events masks asked from bits first → IsFirstUnmetBelow (along_arcs arcs) asked from (from + length bits) first
   unmet_first closed starts None all = unmet_none all
   unmet_first closed starts (Some place) (low, high, none, before) = (

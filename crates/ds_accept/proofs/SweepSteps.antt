@@ -12,7 +12,7 @@ use Rattle.ds_marked.specs.Graph.{Walk, along, IsArc}
 use Rattle.ds_marked.specs.declared.marked.Arc.{Arc}
 use Rattle.ds_accept.specs.Masks.{AreWalks, IsClosedAt, IsSwept, along_arcs}
 
--- a place is that of one event at one level
+-- a place is that of one event and one sum of tokens
 pub one_place : (n l v m w : ℕ) → v < n → w < n → l * n + v ≡ m * n + w → (l ≡ m) × (v ≡ w)
 one_place n l v m w a b e =
     let same : l ≡ m = sym (div-mul-add l n v a) ∙ (ap (λ (x : ℕ). x / n) e ∙ div-mul-add m n w b) in
@@ -58,14 +58,14 @@ first_of a b c is e = is ∙ (e ∙ sym (ap (λ (a : Bool). one_of a b) e))
 pub second_of : (a b c : Bool) → c ≡ b → a ≡ false → c ≡ one_of a b
 second_of a b c is e = is ∙ sym (ap (λ (a : Bool). one_of a b) e)
 
--- the places of the events at the levels
-pub place_lt : (n levels l v : ℕ) → l < levels → v < n → l * n + v < levels * n
-place_lt n levels l v low near = let h : l * n + v < n * levels = mul-add-lt l n v levels low near in omega (arith, h)
+-- the places of the events and the sums of tokens
+pub place_lt : (n bound l v : ℕ) → l < bound → v < n → l * n + v < bound * n
+place_lt n bound l v low near = let h : l * n + v < n * bound = mul-add-lt l n v bound low near in omega (arith, h)
 
-module _ (arcs : List Arc) (events levels : ℕ) where
+module _ (arcs : List Arc) (events bound : ℕ) where
   -- one step behind another
   pub step_both : (P Q R : List ℕ → Type 0) (old mid new : List ℕ) (a b : Bool) → (P new → Q new → R new)
-      → IsSwept arcs events levels P old mid a → IsSwept arcs events levels Q mid new b → IsSwept arcs events levels R old new (one_of a b)
+      → IsSwept arcs events bound P old mid a → IsSwept arcs events bound Q mid new b → IsSwept arcs events bound R old new (one_of a b)
   step_both P Q R old mid new true true join s t = record {
     size = t.size ∙ s.size;
     walks = λ src w. t.walks src (s.walks src w);
@@ -99,14 +99,14 @@ module _ (arcs : List Arc) (events levels : ℕ) where
     stays = λ e. join (subst P (sym (t.same refl)) (s.stays refl)) (t.stays refl);
   }
 
--- one arc at one level
-module _ (arcs : List Arc) (events levels level : ℕ) (arc : Arc) (old : List ℕ) (in_arcs : Contains arcs arc) (source : arc.source < events) (target : arc.target < events)
-    (size : length old ≡ levels * events) (near : level + arc.tokens < levels) (inside : (level + arc.tokens) * events + arc.target < length old) where
+-- one arc at one sum of tokens
+module _ (arcs : List Arc) (events bound token_sum : ℕ) (arc : Arc) (old : List ℕ) (in_arcs : Contains arcs arc) (source : arc.source < events) (target : arc.target < events)
+    (size : length old ≡ bound * events) (near : token_sum + arc.tokens < bound) (inside : (token_sum + arc.tokens) * events + arc.target < length old) where
   abbrev from : ℕ
-  from = level * events + arc.source
+  from = token_sum * events + arc.source
 
   abbrev to : ℕ
-  to = (level + arc.tokens) * events + arc.target
+  to = (token_sum + arc.tokens) * events + arc.target
 
   abbrev word : ℕ
   word = bit_or (get_or old to 0) (get_or old from 0)
@@ -120,20 +120,20 @@ module _ (arcs : List Arc) (events levels level : ℕ) (arc : Arc) (old : List �
   at_other : (i : ℕ) → i ≢ to → get_or next i 0 ≡ get_or old i 0
   at_other i ne = get_or-set_other old to i word 0 ne
 
-  walks : (sources : List ℕ) → AreWalks arcs sources events levels old → AreWalks arcs sources events levels next
+  walks : (sources : List ℕ) → AreWalks arcs sources events bound old → AreWalks arcs sources events bound next
   walks sources have l v b low near_v reached = elim (cases_eq (l * events + v) to) [
     | inl e ↦
-        (let same : (l ≡ level + arc.tokens) × (v ≡ arc.target) = one_place events l v (level + arc.tokens) arc.target near_v target e in
+        (let same : (l ≡ token_sum + arc.tokens) × (v ≡ arc.target) = one_place events l v (token_sum + arc.tokens) arc.target near_v target e in
         let has : bit_at word b ≡ 1 = ap (λ (x : ℕ). bit_at x b) (sym at_to) ∙ (ap (λ (i : ℕ). bit_at (get_or next i 0) b) (sym e) ∙ reached) in
         elim (or_bit (get_or old to 0) (get_or old from 0) b has) [
           | inl was ↦ have l v b low near_v (ap (λ (i : ℕ). bit_at (get_or old i 0) b) e ∙ was)
           | inr new ↦
-              (let before = have level arc.source b (omega arith) source new in
+              (let before = have token_sum arc.source b (omega arith) source new in
               let is_arc : IsArc (along_arcs arcs) arc.source arc.target arc.tokens = (in_arcs.0, arc, in_arcs.1, in_arcs.2, (refl, refl, refl)) in
-              let walk : Walk (along_arcs arcs) (get_or sources b 0) arc.target (level + arc.tokens) = along before.1 is_arc in (
+              let walk : Walk (along_arcs arcs) (get_or sources b 0) arc.target (token_sum + arc.tokens) = along before.1 is_arc in (
                 before.0,
                 subst (λ (l : ℕ). Walk (along_arcs arcs) (get_or sources b 0) v l) (sym same.0)
-                    (subst (λ (v : ℕ). Walk (along_arcs arcs) (get_or sources b 0) v (level + arc.tokens)) (sym same.1) walk),
+                    (subst (λ (v : ℕ). Walk (along_arcs arcs) (get_or sources b 0) v (token_sum + arc.tokens)) (sym same.1) walk),
               ))
         ])
     | inr ne ↦ have l v b low near_v (ap (λ (x : ℕ). bit_at x b) (sym (at_other (l * events + v) ne)) ∙ reached)
@@ -155,32 +155,32 @@ module _ (arcs : List Arc) (events levels level : ℕ) (arc : Arc) (old : List �
   same : word ≡ get_or old to 0 → next ≡ old
   same e = ap (λ (x : ℕ). set old to x) e ∙ set-get_or old to 0
 
-  closed : word ≡ get_or old to 0 → IsClosedAt events levels old level arc
+  closed : word ≡ get_or old to 0 → IsClosedAt events bound old token_sum arc
   closed e low b reached = ap (λ (x : ℕ). bit_at x b) (sym e) ∙ or_right (get_or old to 0) (get_or old from 0) b reached
 
   pub step_arc : (new : List ℕ) (changed : Bool) → new ≡ set old to word → (changed ≡ true → word ≢ get_or old to 0) → (changed ≡ false → word ≡ get_or old to 0)
-      → IsSwept arcs events levels (λ masks. IsClosedAt events levels masks level arc) old new changed
-  step_arc new changed is differs equal = subst (λ (new : List ℕ). IsSwept arcs events levels (λ masks. IsClosedAt events levels masks level arc) old new changed) (sym is) (record {
+      → IsSwept arcs events bound (λ masks. IsClosedAt events bound masks token_sum arc) old new changed
+  step_arc new changed is differs equal = subst (λ (new : List ℕ). IsSwept arcs events bound (λ masks. IsClosedAt events bound masks token_sum arc) old new changed) (sym is) (record {
     size = length-set old to word;
     walks = walks;
     kept = kept;
     more = λ e. more (differs e);
     same = λ e. same (equal e);
-    stays = λ e. subst (λ (masks : List ℕ). IsClosedAt events levels masks level arc) (sym (same (equal e))) (closed (equal e));
+    stays = λ e. subst (λ (masks : List ℕ). IsClosedAt events bound masks token_sum arc) (sym (same (equal e))) (closed (equal e));
   })
 
 -- the same, at places that are given by equations
-pub step_arc_at : (arcs : List Arc) (events levels level : ℕ) (arc : Arc) (old : List ℕ) (in_arcs : Contains arcs arc) → arc.source < events → arc.target < events
-    → length old ≡ levels * events → level + arc.tokens < levels
+pub step_arc_at : (arcs : List Arc) (events bound token_sum : ℕ) (arc : Arc) (old : List ℕ) (in_arcs : Contains arcs arc) → arc.source < events → arc.target < events
+    → length old ≡ bound * events → token_sum + arc.tokens < bound
     → (f t : ℕ) (new : List ℕ) (changed : Bool) → new ≡ set old t (bit_or (get_or old t 0) (get_or old f 0))
     → (changed ≡ true → bit_or (get_or old t 0) (get_or old f 0) ≢ get_or old t 0) → (changed ≡ false → bit_or (get_or old t 0) (get_or old f 0) ≡ get_or old t 0)
-    → f ≡ level * events + arc.source → t ≡ (level + arc.tokens) * events + arc.target
-    → IsSwept arcs events levels (λ masks. IsClosedAt events levels masks level arc) old new changed
-step_arc_at arcs events levels level arc old in_arcs source target size near f t new changed is differs equal at_f at_t =
-    step_arc arcs events levels level arc old in_arcs source target size near (subst (λ (n : ℕ). (level + arc.tokens) * events + arc.target < n) (sym size) (place_lt events levels (level + arc.tokens) arc.target near target)) new changed
-    (subst (λ (t : ℕ). new ≡ set old t (bit_or (get_or old t 0) (get_or old (level * events + arc.source) 0))) at_t
+    → f ≡ token_sum * events + arc.source → t ≡ (token_sum + arc.tokens) * events + arc.target
+    → IsSwept arcs events bound (λ masks. IsClosedAt events bound masks token_sum arc) old new changed
+step_arc_at arcs events bound token_sum arc old in_arcs source target size near f t new changed is differs equal at_f at_t =
+    step_arc arcs events bound token_sum arc old in_arcs source target size near (subst (λ (n : ℕ). (token_sum + arc.tokens) * events + arc.target < n) (sym size) (place_lt events bound (token_sum + arc.tokens) arc.target near target)) new changed
+    (subst (λ (t : ℕ). new ≡ set old t (bit_or (get_or old t 0) (get_or old (token_sum * events + arc.source) 0))) at_t
     (subst (λ (f : ℕ). new ≡ set old t (bit_or (get_or old t 0) (get_or old f 0))) at_f is))
-    (subst (λ (t : ℕ). changed ≡ true → bit_or (get_or old t 0) (get_or old (level * events + arc.source) 0) ≢ get_or old t 0) at_t
+    (subst (λ (t : ℕ). changed ≡ true → bit_or (get_or old t 0) (get_or old (token_sum * events + arc.source) 0) ≢ get_or old t 0) at_t
     (subst (λ (f : ℕ). changed ≡ true → bit_or (get_or old t 0) (get_or old f 0) ≢ get_or old t 0) at_f differs))
-    (subst (λ (t : ℕ). changed ≡ false → bit_or (get_or old t 0) (get_or old (level * events + arc.source) 0) ≡ get_or old t 0) at_t
+    (subst (λ (t : ℕ). changed ≡ false → bit_or (get_or old t 0) (get_or old (token_sum * events + arc.source) 0) ≡ get_or old t 0) at_t
     (subst (λ (f : ℕ). changed ≡ false → bit_or (get_or old t 0) (get_or old f 0) ≡ get_or old t 0) at_f equal))

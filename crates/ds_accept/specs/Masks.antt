@@ -1,4 +1,4 @@
--- Masks: a word an event and level, with a bit a source. A level is a sum of tokens.
+-- Masks: a word an event and sum of tokens, with a bit a source.
 use Rattle.std.specs.Prelude.{◌≡◌, ◌↔◌, ℕ, ◌+◌, ◌-◌, ◌*◌, ◌<◌, ◌≤◌, Bool, true, false, Option}
 use Rattle.std.specs.Prelude.{None, Some, List, [], length, sum, slice_index, All, Contains}
 use Rattle.std.specs.List.{HoldsAt}
@@ -24,27 +24,27 @@ pub record IsWithFrom (arcs : List Arc) (v : ℕ) (old new : List Arc) : Type 0 
 abbrev pub along_arcs : List Arc → Graph
 along_arcs arcs = record { events = []; arcs = arcs }
 
--- the mask of an event at a level has this bit
+-- the mask of an event and a sum of tokens has this bit
 abbrev pub IsReachedAt : ℕ → List ℕ → ℕ → ℕ → ℕ → Type 0
-IsReachedAt events masks level v bit =
-    bit_at (slice_index masks (level * events + v)) bit ≡ 1
+IsReachedAt events masks token_sum v bit =
+    bit_at (slice_index masks (token_sum * events + v)) bit ≡ 1
 
--- each bit is a walk from the bit's source, whose tokens sum to the level
+-- each bit is a walk from the bit's source, whose tokens have this sum
 abbrev pub AreWalks : List Arc → List ℕ → ℕ → ℕ → List ℕ → Type 0
-AreWalks arcs sources events levels masks = (level v bit : ℕ) → level < levels → v < events
-    → IsReachedAt events masks level v bit
-    → (bit < length sources) × Walk (along_arcs arcs) (slice_index sources bit) v level
+AreWalks arcs sources events bound masks = (token_sum v bit : ℕ) → token_sum < bound → v < events
+    → IsReachedAt events masks token_sum v bit
+    → (bit < length sources) × Walk (along_arcs arcs) (slice_index sources bit) v token_sum
 
 -- what is reached at the source of an arc is reached at its target, with its tokens more
 abbrev pub IsClosedAt : ℕ → ℕ → List ℕ → ℕ → Arc → Type 0
-IsClosedAt events levels masks level arc = level + arc.tokens < levels
-    → (bit : ℕ) → IsReachedAt events masks level arc.source bit
-    → IsReachedAt events masks (level + arc.tokens) arc.target bit
+IsClosedAt events bound masks token_sum arc = token_sum + arc.tokens < bound
+    → (bit : ℕ) → IsReachedAt events masks token_sum arc.source bit
+    → IsReachedAt events masks (token_sum + arc.tokens) arc.target bit
 
--- the same of all arcs, at the levels below one
+-- the same of all arcs, at the sums below a number
 abbrev pub AreAllClosed : List Arc → ℕ → ℕ → ℕ → List ℕ → Type 0
-AreAllClosed arcs events levels below masks = (level : ℕ) → level < below
-    → All (IsClosedAt events levels masks level) arcs
+AreAllClosed arcs events bound below masks = (token_sum : ℕ) → token_sum < below
+    → All (IsClosedAt events bound masks token_sum) arcs
 
 -- masks before the first sweep: each of the first sources is reached from itself
 abbrev pub AreBegun : List ℕ → ℕ → List ℕ → Type 0
@@ -52,11 +52,11 @@ AreBegun sources count masks = (v bit : ℕ)
     → (bit_at (slice_index masks v) bit ≡ 1) ↔ ((bit < count) × (slice_index sources bit ≡ v))
 
 -- masks after some arcs are taken: where none has changed, those arcs are closed
-pub record IsSwept (arcs : List Arc) (events levels : ℕ) (closed : List ℕ → Type 0)
+pub record IsSwept (arcs : List Arc) (events bound : ℕ) (closed : List ℕ → Type 0)
     (old new : List ℕ) (changed : Bool) : Type 0 where
   pub size : length new ≡ length old
-  pub walks : (sources : List ℕ) → AreWalks arcs sources events levels old
-      → AreWalks arcs sources events levels new
+  pub walks : (sources : List ℕ) → AreWalks arcs sources events bound old
+      → AreWalks arcs sources events bound new
   pub kept : (i bit : ℕ) → bit_at (slice_index old i) bit ≡ 1 → bit_at (slice_index new i) bit ≡ 1
   pub more : changed ≡ true → sum old < sum new
   pub same : changed ≡ false → new ≡ old
@@ -73,10 +73,10 @@ pub record IsBlock (asked : List Arc) (from : ℕ) (sources bits : List ℕ) : T
   pub has_source : (k : ℕ) → k < length bits
       → HoldsAt (λ order. slice_index sources (slice_index bits k) ≡ order.source) asked (from + k)
 
--- the target of an order is reached at a level of at most its tokens
+-- the target of an order is reached with at most its tokens
 abbrev pub IsFoundBy : ℕ → List ℕ → Arc → ℕ → Type 0
-IsFoundBy events masks order bit = (level : ℕ) × (level ≤ order.tokens)
-    × IsReachedAt events masks level order.target bit
+IsFoundBy events masks order bit = (token_sum : ℕ) × (token_sum ≤ order.tokens)
+    × IsReachedAt events masks token_sum order.target bit
 
 -- the first order from a place on, among those with bits, that is not found
 abbrev pub IsFirstNotFound : ℕ → List ℕ → List Arc → ℕ → List ℕ → Option ℕ → Type 0

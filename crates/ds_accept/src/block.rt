@@ -62,16 +62,16 @@ impl Block {
         masks: &[u64],
     ) -> Option<usize>
         requires asked { AreEnds search.now.events search.now.asked.now }
-        requires levels { All (λ arc. arc.tokens < search.now.levels) search.now.asked.now }
+        requires bound { All (λ arc. arc.tokens < search.now.bound) search.now.asked.now }
         requires block { IsBlock search.now.asked.now from self.now.sources.items
             self.now.bits.items }
-        requires size { length masks.now ≡ search.now.levels * search.now.events }
+        requires size { length masks.now ≡ search.now.bound * search.now.events }
         ensures { IsFirstNotFound search.now.events masks.now search.now.asked.now from
             self.now.bits.items result }
     {
         for (k, bit) in self.bits.iter().enumerate() {
             let order = &search.asked[from + k];
-            if !is_found(order, *bit, search.events, search.levels, masks) {
+            if !is_found(order, *bit, search.events, search.bound, masks) {
                 return Some(from + k);
             }
         }
@@ -91,14 +91,14 @@ fn ends_with(sources: &[EventId], source: EventId) -> bool
 }
 
 // Whether the target of an order is reached from the source of this bit.
-fn is_found(order: &Arc, bit: u32, events: usize, levels: usize, masks: &[u64]) -> bool
+fn is_found(order: &Arc, bit: u32, events: usize, bound: usize, masks: &[u64]) -> bool
     requires bit { bit < 64 }
-    requires inside { (order.now.target < events) × (order.now.tokens < levels) }
-    requires size { length masks.now ≡ levels * events }
+    requires inside { (order.now.target < events) × (order.now.tokens < bound) }
+    requires size { length masks.now ≡ bound * events }
     ensures { IsTrue result ↔ IsFoundBy events masks.now order.now bit }
 {
-    for level in 0..usize::from(order.tokens) + 1 {
-        let place = level * events + order.target.index();
+    for token_sum in 0..usize::from(order.tokens) + 1 {
+        let place = token_sum * events + order.target.index();
         if has_bit(masks[place], bit) {
             return true;
         }

@@ -26,50 +26,50 @@ pub(crate) fn begun(
     Ok(masks)
 }
 
-// Takes each arc at each level once. Whether a mask has changed.
-pub(crate) fn sweep(arcs: &[Arc], events: usize, levels: usize, masks: &mut [u64]) -> bool
+// Takes each arc at each sum of tokens once. Whether a mask has changed.
+pub(crate) fn sweep(arcs: &[Arc], events: usize, bound: usize, masks: &mut [u64]) -> bool
     requires ends { AreEnds events arcs.now }
-    requires size { length masks.old ≡ levels * events }
-    requires few { levels ≤ 256 }
-    ensures step { IsSwept arcs.now events levels (AreAllClosed arcs.now events levels levels)
+    requires size { length masks.old ≡ bound * events }
+    requires few { bound ≤ 256 }
+    ensures step { IsSwept arcs.now events bound (AreAllClosed arcs.now events bound bound)
         masks.old masks.new result }
     ensures fits { (i : ℕ) → slice_index masks.new i < 2 ^ 64 }
 {
     let mut changed = false;
-    for level in 0..levels {
-        let more = sweep_level(arcs, events, levels, level, masks);
+    for token_sum in 0..bound {
+        let more = sweep_sum(arcs, events, bound, token_sum, masks);
         changed = changed || more;
     }
     changed
 }
 
-// Takes each arc at a level once.
-fn sweep_level(arcs: &[Arc], events: usize, levels: usize, level: usize, masks: &mut [u64]) -> bool
+// Takes each arc at a sum of tokens once.
+fn sweep_sum(arcs: &[Arc], events: usize, bound: usize, token_sum: usize, masks: &mut [u64]) -> bool
     requires ends { AreEnds events arcs.now }
-    requires size { length masks.old ≡ levels * events }
-    requires few { (level < levels) × (levels ≤ 256) }
-    ensures { IsSwept arcs.now events levels
-        (λ masks. All (IsClosedAt events levels masks level) arcs.now) masks.old masks.new result }
+    requires size { length masks.old ≡ bound * events }
+    requires few { (token_sum < bound) × (bound ≤ 256) }
+    ensures { IsSwept arcs.now events bound
+        (λ now. All (IsClosedAt events bound now token_sum) arcs.now) masks.old masks.new result }
 {
     let mut changed = false;
     for arc in arcs {
-        let more = sweep_arc(arc, events, levels, level, masks);
+        let more = sweep_arc(arc, events, bound, token_sum, masks);
         changed = changed || more;
     }
     changed
 }
 
 // What is reached at the source of an arc is reached at its target, with its tokens more.
-fn sweep_arc(arc: &Arc, events: usize, levels: usize, level: usize, masks: &mut [u64]) -> bool
+fn sweep_arc(arc: &Arc, events: usize, bound: usize, token_sum: usize, masks: &mut [u64]) -> bool
     requires ends { (arc.now.source < events) × (arc.now.target < events) }
-    requires size { length masks.old ≡ levels * events }
-    requires few { (level < levels) × (levels ≤ 256) }
-    ensures { (arcs : _) → Contains arcs arc.now → IsSwept arcs events levels
-        (λ masks. IsClosedAt events levels masks level arc.now) masks.old masks.new result }
+    requires size { length masks.old ≡ bound * events }
+    requires few { (token_sum < bound) × (bound ≤ 256) }
+    ensures { (arcs : _) → Contains arcs arc.now → IsSwept arcs events bound
+        (λ masks. IsClosedAt events bound masks token_sum arc.now) masks.old masks.new result }
 {
-    let next = level + usize::from(arc.tokens);
-    if next < levels {
-        let from = level * events + arc.source.index();
+    let next = token_sum + usize::from(arc.tokens);
+    if next < bound {
+        let from = token_sum * events + arc.source.index();
         pour(masks, from, next * events + arc.target.index())
     } else {
         false

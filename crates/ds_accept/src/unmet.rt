@@ -36,7 +36,7 @@ pub fn first_unmet(
         arcs: arcs.as_slice(),
         asked,
         events: graph.events().len(),
-        levels: usize::from(most_tokens(asked)) + 1,
+        bound: usize::from(most_tokens(asked)) + 1,
     };
     first_along(alloc, &search)
 }
@@ -58,8 +58,8 @@ fn most_tokens(asked: &[Arc]) -> u8
 fn first_along(alloc: Global, search: &WalkSearch<'_>) -> Result<Option<usize>, OutOfMemory>
     requires ends { AreEnds search.now.events search.now.arcs.now }
     requires asked { AreEnds search.now.events search.now.asked.now }
-    requires levels { All (λ arc. arc.tokens < search.now.levels) search.now.asked.now }
-    requires few { (0 < search.now.levels) × (search.now.levels ≤ 256)
+    requires bound { All (λ arc. arc.tokens < search.now.bound) search.now.asked.now }
+    requires few { (0 < search.now.bound) × (search.now.bound ≤ 256)
         × (search.now.events < 2 ^ 32) }
     ensures { IfOk result (IsFirstUnmet (along_arcs search.now.arcs.now) search.now.asked.now) }
 {
@@ -76,7 +76,7 @@ fn first_along(alloc: Global, search: &WalkSearch<'_>) -> Result<Option<usize>, 
     Ok(None)
 }
 
-// The first order of a block that no walk gives. With more than two levels it is tried first
+// The first order of a block that no walk gives. With a bound above two it is tried first
 // whether walks of one token give them all: mostly they do.
 fn unmet_of(
     alloc: Global,
@@ -87,8 +87,8 @@ fn unmet_of(
 ) -> Result<Option<usize>, OutOfMemory>
     requires ends { AreEnds search.now.events search.now.arcs.now }
     requires asked { AreEnds search.now.events search.now.asked.now }
-    requires levels { All (λ arc. arc.tokens < search.now.levels) search.now.asked.now }
-    requires few { (0 < search.now.levels) × (search.now.levels ≤ 256)
+    requires bound { All (λ arc. arc.tokens < search.now.bound) search.now.asked.now }
+    requires few { (0 < search.now.bound) × (search.now.bound ≤ 256)
         × (search.now.events < 2 ^ 32) }
     requires block { IsBlock search.now.asked.now from block.now.sources.items
         block.now.bits.items }
@@ -96,14 +96,14 @@ fn unmet_of(
     ensures { IfOk result (IsFirstUnmetBelow (along_arcs search.now.arcs.now)
         search.now.asked.now from (from + length block.now.bits.items)) }
 {
-    if search.levels <= 2 {
+    if search.bound <= 2 {
         return unmet_in(alloc, search, from, block);
     }
     let quick = WalkSearch {
         arcs: search.arcs,
         asked: few,
         events: search.events,
-        levels: 2,
+        bound: 2,
     };
     let unmet = unmet_in(alloc, &quick, from, block)?;
     match unmet {
@@ -112,7 +112,7 @@ fn unmet_of(
     }
 }
 
-// The same, by all levels at once.
+// The same, by all sums at once.
 fn unmet_in(
     alloc: Global,
     search: &WalkSearch<'_>,
@@ -121,15 +121,15 @@ fn unmet_in(
 ) -> Result<Option<usize>, OutOfMemory>
     requires ends { AreEnds search.now.events search.now.arcs.now }
     requires asked { AreEnds search.now.events search.now.asked.now }
-    requires levels { All (λ arc. arc.tokens < search.now.levels) search.now.asked.now }
-    requires few { (0 < search.now.levels) × (search.now.levels ≤ 256)
+    requires bound { All (λ arc. arc.tokens < search.now.bound) search.now.asked.now }
+    requires few { (0 < search.now.bound) × (search.now.bound ≤ 256)
         × (search.now.events < 2 ^ 32) }
     requires block { IsBlock search.now.asked.now from block.now.sources.items
         block.now.bits.items }
     ensures { IfOk result (IsFirstUnmetBelow (along_arcs search.now.arcs.now)
         search.now.asked.now from (from + length block.now.bits.items)) }
 {
-    let size = search.levels * search.events;
+    let size = search.bound * search.events;
     let mut masks = begun(alloc, block.sources.as_slice(), size)?;
     Ok(unmet_by(search, from, block, masks.as_mut_slice()))
 }
@@ -138,17 +138,17 @@ fn unmet_in(
 fn unmet_by(search: &WalkSearch<'_>, from: usize, block: &Block, masks: &mut [u64]) -> Option<usize>
     requires ends { AreEnds search.now.events search.now.arcs.now }
     requires asked { AreEnds search.now.events search.now.asked.now }
-    requires levels { All (λ arc. arc.tokens < search.now.levels) search.now.asked.now }
-    requires few { search.now.levels ≤ 256 }
+    requires bound { All (λ arc. arc.tokens < search.now.bound) search.now.asked.now }
+    requires few { search.now.bound ≤ 256 }
     requires block { IsBlock search.now.asked.now from block.now.sources.items
         block.now.bits.items }
-    requires size { length masks.old ≡ search.now.levels * search.now.events }
+    requires size { length masks.old ≡ search.now.bound * search.now.events }
     requires begun { AreBegun block.now.sources.items
         (length block.now.sources.items) masks.old }
     ensures { IsFirstUnmetBelow (along_arcs search.now.arcs.now) search.now.asked.now
         from (from + length block.now.bits.items) result }
 {
-    'sweeps: while sweep(search.arcs, search.events, search.levels, masks) {
+    'sweeps: while sweep(search.arcs, search.events, search.bound, masks) {
         if block.first_not_found(search, from, masks).is_none() {
             return None;
         }

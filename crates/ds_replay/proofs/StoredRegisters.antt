@@ -17,7 +17,7 @@ use Rattle.ds_fire.specs.Fired.{IsAfter, IsSnapshotSound}
 use Rattle.ds_latch.proofs.Spelt.{range_agree}
 use Rattle.ds_fire.proofs.Lawful.{chunk, slave_wide}
 use Rattle.ds_rows.specs.Homes.{AreHomes, IsHome, no_home}
-use Rattle.ds_rows.specs.Log.{column, fired_line, stored_text}
+use Rattle.ds_rows.specs.Log.{joined_at_place, fired_line, stored_text}
 use Rattle.ds_rows.specs.Nets.{register_of}
 use Rattle.ds_rows.specs.StateText.{IsStateText}
 use Rattle.ds_rows.specs.declared.homes.Home.{Home}
@@ -26,12 +26,12 @@ use Rattle.ds_replay.specs.Kept.{register_line, state_text}
 -- a line that is spelt by the home of its register
 pub line_is : (kept : Snapshot) (s : Split) (homes : List Home) (r : ℕ) (c : Circuit) (width : ℕ) (values : Row) → split_of kept ≡ s → c ≡ s.circuit
     → width ≡ length (members s (get_or homes r no_home).cluster) → values ≡ stored_values kept (Slave (get_or homes r no_home).cluster)
-    → stored_text (register_of c r) (column width (get_or homes r no_home).place values) ≡ register_line kept homes r
+    → stored_text (register_of c r) (joined_at_place width (get_or homes r no_home).place values) ≡ register_line kept homes r
 line_is kept s homes r c width values split circuit wide stored =
     let home : Home = get_or homes r no_home in
-    ap (λ (d : Circuit). stored_text (register_of d r) (column width home.place values)) (circuit ∙ ap (λ (t : Split). t.circuit) (sym split))
-    ∙ (ap (λ (w : ℕ). stored_text (register_of (split_of kept).circuit r) (column w home.place values)) (wide ∙ ap (λ (t : Split). length (members t home.cluster)) (sym split))
-    ∙ ap (λ (vs : Row). stored_text (register_of (split_of kept).circuit r) (column (length (members (split_of kept) home.cluster)) home.place vs)) stored)
+    ap (λ (d : Circuit). stored_text (register_of d r) (joined_at_place width home.place values)) (circuit ∙ ap (λ (t : Split). t.circuit) (sym split))
+    ∙ (ap (λ (w : ℕ). stored_text (register_of (split_of kept).circuit r) (joined_at_place w home.place values)) (wide ∙ ap (λ (t : Split). length (members t home.cluster)) (sym split))
+    ∙ ap (λ (vs : Row). stored_text (register_of (split_of kept).circuit r) (joined_at_place (length (members (split_of kept) home.cluster)) home.place vs)) stored)
 
 -- rows of one width have so many values together
 rows_long : (rows : List Row) (w : ℕ) → ((j : ℕ) → j < length rows → length (get_or rows j []) ≡ w) → length (rows_joined rows) ≡ length rows * w
@@ -42,15 +42,15 @@ rows_long (row ∷ rows) w widths =
     let step : suc (length rows) * w ≡ length rows * w + w = suc-mul (length rows) w in
     length-append row (rows_joined rows) ∙ (let sum : length row + length (rows_joined rows) ≡ suc (length rows) * w = omega arith in sum)
 
--- a column of rows of one width has of each row the value at its place
-pub column_is : (rows : List Row) (w p : ℕ) → ((j : ℕ) → j < length rows → length (get_or rows j []) ≡ w) → p < w
-    → column w p (rows_joined rows) ≡ map (λ row. get_or row p Zero) rows
-column_is rows w p widths low =
+-- at a place of joined rows of one width is of each row the value at this place
+pub joined_is : (rows : List Row) (w p : ℕ) → ((j : ℕ) → j < length rows → length (get_or rows j []) ≡ w) → p < w
+    → joined_at_place w p (rows_joined rows) ≡ map (λ row. get_or row p Zero) rows
+joined_is rows w p widths low =
     let all : Row = rows_joined rows in
     let count : length (rows_joined rows) / w ≡ length rows = ap (λ (n : ℕ). n / w) (rows_long rows w widths) ∙ mul-div_cancel (length rows) (omega arith) in
     let at : ℕ → Value = λ k. get_or all (k * w + p) Zero in
-    let long : length (column w p (rows_joined rows)) ≡ length rows = length-map-range_with_len at 0 (length all / w) ∙ count in
-    same_lists (column w p all) (map (λ row. get_or row p Zero) rows) (long ∙ sym (length-map rows (λ row. get_or row p Zero)))
+    let long : length (joined_at_place w p (rows_joined rows)) ≡ length rows = length-map-range_with_len at 0 (length all / w) ∙ count in
+    same_lists (joined_at_place w p all) (map (λ row. get_or row p Zero) rows) (long ∙ sym (length-map rows (λ row. get_or row p Zero)))
     (λ k d inside.
     let inside_rows : k < length rows = omega arith in
     let row : Row = get_or rows k [] in
@@ -76,8 +76,8 @@ text_of_kept kept events homes fired most legal (now, all, shows) sound are many
     let p : ℕ = (get_or homes r no_home).place in
     let here : IsHome (split_of kept) r (get_or homes r no_home) = are.each r low in
     ap (λ (values : Row). stored_text (register_of (split_of kept).circuit r) values)
-    (ap (λ (values : Row). column (length (members (split_of kept) i)) p values) (sym (shows.stored (Slave i) here.is_cluster))
-    ∙ column_is (now.stored (Slave i)) (length (members (split_of kept) i)) p
+    (ap (λ (values : Row). joined_at_place (length (members (split_of kept) i)) p values) (sym (shows.stored (Slave i) here.is_cluster))
+    ∙ joined_is (now.stored (Slave i)) (length (members (split_of kept) i)) p
     (slave_wide kept sound events legal now all shows i here.is_cluster) here.inside) in
     record {
       now = now;

@@ -8,7 +8,7 @@ use Rattle.ds_latch.specs.declared.node.Node.TheVariants.{Slave}
 use Rattle.ds_latch.specs.Plan.{Planned}
 use Rattle.ds_fire.specs.Snapshot.{Snapshot, split_of, stored_values, count_of, held_row}
 use Rattle.ds_rows.specs.Homes.{no_home}
-use Rattle.ds_rows.specs.Log.{column, fired_line, stored_text}
+use Rattle.ds_rows.specs.Log.{joined_at_place, fired_line, stored_text}
 use Rattle.ds_rows.specs.Nets.{register_of}
 use Rattle.ds_rows.specs.declared.homes.Home.{Home}
 use Rattle.ds_replay.specs.Replayed.{IsReplayed}
@@ -31,7 +31,7 @@ pub record IsKeptText (transparent : Bool) (kept : Snapshot) (fired : ℕ) (text
 -- the line of a register, by where the registers stand
 abbrev pub register_line : Snapshot → List Home → ℕ → List ℕ
 register_line kept homes r = stored_text (register_of (split_of kept).circuit r)
-    (column (length (members (split_of kept) (slice_index_or homes r no_home).cluster))
+    (joined_at_place (length (members (split_of kept) (slice_index_or homes r no_home).cluster))
     (slice_index_or homes r no_home).place
     (stored_values kept (Slave (slice_index_or homes r no_home).cluster)))
 

@@ -16,7 +16,7 @@ use ds_base::Row3;
 use ds_fire::State;
 use ds_latch::{Latches, Node};
 use ds_outside::{Buffered, Pen, Sink, WriteFault};
-use ds_rows::{Home, put_column, put_fired, put_register_name};
+use ds_rows::{Home, put_at_place, put_fired, put_register_name};
 
 /// Writes a line for each register, and the line of the firings, once a log has been fired; where
 /// what open latches show is wanted, then a line for each open node. No memory is taken but the
@@ -95,6 +95,6 @@ fn put_register<P: Pen>(
     let slave = Node::Slave(home.cluster as u32).latch();
     put_register_name(latches.netlist().design(), r, pen);
     pen.put(b": ");
-    put_column(state.stored(slave), width, home.place, pen);
+    put_at_place(state.stored(slave), width, home.place, pen);
     pen.put(b"\n");
 }

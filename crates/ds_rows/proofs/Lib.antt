@@ -1,7 +1,7 @@
 pub mod RowText
 pub mod RowsSoFar
 pub mod PrintedRows
-pub mod Columns
+pub mod JoinedAtPlace
 pub mod ValueWords
 pub mod RegisterHomes
 pub mod DecimalDigits

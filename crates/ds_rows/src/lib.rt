@@ -12,7 +12,7 @@
 //! writes exactly the line of a firing, `put_open_line` that of what an open node shows,
 //! `put_fired` how many firings there were; `firing_line` and `open_line` write theirs to a sink,
 //! or a first part of it where a write fails. A caller sees stored values as rows that stand one
-//! behind the other, as values (`put_column`) or as words of 32 values (`put_stored`). `homes_of`
+//! behind the other, as values (`put_at_place`) or as words of 32 values (`put_stored`). `homes_of`
 //! finds in which cluster each register stands, and at which place; of the calls on logs and states
 //! it alone takes memory. The line of a register, and that of all that a state has stored, are
 //! those of `specs/StateText`. How many calls of the sink a line takes is not promised.
@@ -23,7 +23,7 @@
 //! firings and files of delays are read by these.
 #![tactic(auto)]
 
-mod column;
+mod at_place;
 mod fault;
 mod homes;
 mod laws;
@@ -38,7 +38,7 @@ mod texts;
 mod trace;
 mod vector;
 
-pub use column::put_column;
+pub use at_place::put_at_place;
 pub use fault::{VectorFault, VectorKind, VectorRefusal};
 pub use homes::{Home, homes_of};
 pub use laws::{printed_is_read, worked_vectors};

@@ -1,4 +1,4 @@
--- A job whose files are there has a text, or a line that refuses it.
+-- A job whose files have bytes has a text, or a line that refuses it.
 use Rattle.std.proofs.Common.{inl, ℕ, List, Some, refl}
 use Rattle.ds_outside.specs.Held.{Held}
 use Rattle.ds_design.specs.Rows.{Rows}
@@ -24,7 +24,7 @@ use Rattle.ds_app.specs.Job.{run_stage, stages_of}
 use Rattle.ds_app.specs.JobStages.{accept_stage, clock_stage, graph_stage, listing_stage, period_stage, replay_stage, times_stage}
 use Rattle.ds_app.specs.RunStage.{planned_run_stage}
 use Rattle.ds_total_laws.specs.Decided.{IsDecided, JobsAreDecided}
-use Rattle.ds_total_laws.specs.There.{FilesAreThere}
+use Rattle.ds_total_laws.specs.FileBytes.{FilesHaveBytes}
 use Rattle.ds_total_laws.proofs.StagesDecided.{then_decided}
 use Rattle.ds_total_laws.proofs.Demos.{demo_decided}
 use Rattle.ds_total_laws.proofs.Netlists.{behind_netlist}
@@ -34,7 +34,7 @@ use Rattle.ds_total_laws.proofs.Splits.{clustered_decided, controller_decided, r
 use Rattle.ds_total_laws.proofs.JobTextsExist.{clock_decided, ranks_decided, replay_decided, report_decided, run_decided, timed_decided}
 
 module _ (held : List ℕ → Held) where
-  job_decided : (job : Job) → AreAllowed job → FilesAreThere held job → IsDecided (stages_of held job)
+  job_decided : (job : Job) → AreAllowed job → FilesHaveBytes held job → IsDecided (stages_of held job)
   job_decided (Run job) ((some, most), slack) (net, vec, graph, groups) =
       behind_netlist held job.net (run_stage held job) net (λ c range accepts.
       then_decided (planned_stage held job.net job.graph job.groups job.clusters job.slack c) (planned_run_stage held job.vec job.log job.jobs job.stop c)
@@ -58,7 +58,7 @@ module _ (held : List ℕ → Held) where
       then_decided (planned_stage held job.net (Some job.graph) job.groups job.clusters job.slack c) ranks_stage
       (planned_decided held job.net (Some job.graph) job.groups job.clusters job.slack graph groups c accepts)
       (λ p planned. ranks_decided held c range accepts job.net (Some job.graph) job.groups job.clusters job.slack p planned))
-  job_decided (Demo job) (some, few, turns, workers) there = demo_decided job.seed job.registers job.turns some few turns
+  job_decided (Demo job) (some, few, turns, workers) has_bytes = demo_decided job.seed job.registers job.turns some few turns
   job_decided (Period job) allowed (net, delays, graph, groups) =
       behind_netlist held job.net (period_stage held job) net (λ c range accepts.
       then_decided (planned_stage held job.net job.graph job.groups job.clusters job.slack c) (λ (p : Planned). timed_stage held job.delays p.graph)
@@ -77,4 +77,4 @@ module _ (held : List ℕ → Held) where
 
 -- each job is decided
 pub jobs_are_decided : JobsAreDecided
-jobs_are_decided held job allowed there = job_decided held job allowed there
+jobs_are_decided held job allowed has_bytes = job_decided held job allowed has_bytes

@@ -44,7 +44,7 @@ use Rattle.ds_stage.proofs.Streamed.{streamed_wide}
 use Rattle.ds_app.specs.JobStages.{clock_stage}
 use Rattle.ds_app.specs.RunStage.{planned_run_stage, stopped_stage, traced_stage}
 use Rattle.ds_total_laws.specs.Decided.{IsDecided}
-use Rattle.ds_total_laws.specs.There.{HasBytes}
+use Rattle.ds_total_laws.specs.FileBytes.{HasBytes}
 use Rattle.ds_total_laws.proofs.StagesDecided.{lines_decided, result_decided, then_decided, vectors_decided}
 use Rattle.ds_total_laws.proofs.StreamDecided.{streamed_decided}
 
@@ -75,10 +75,10 @@ module _ (held : List ℕ → Held) where
     pub report_decided : IsDecided (report_stage c)
     report_decided = (let (depth, is) = designs_have_depth c range accepts in inl (report_text c depth, (depth, is, refl)))
 
-    -- and a trace on the vectors of a file that is there, or a line of them has a fault
+    -- and a trace on the vectors of a file with bytes, or a line of them has a fault
     pub clock_decided : (vec : List ℕ) → HasBytes (held vec) → IsDecided (clock_stage held vec c)
-    clock_decided vec there =
-        then_decided (streamed_stage held vec (most_vectors false) c) (trace_stage c) (streamed_decided held vec (most_vectors false) c there)
+    clock_decided vec has_bytes =
+        then_decided (streamed_stage held vec (most_vectors false) c) (trace_stage c) (streamed_decided held vec (most_vectors false) c has_bytes)
         (λ vectors read. inl (traces_exist c range accepts vectors.rows (streamed_wide held vec (most_vectors false) c vectors read)))
 
     module _ (net : List ℕ) (graph groups : Option (List ℕ)) (mode : Mode) (slack : ℕ) (p : Planned) (planned : (planned_stage held net graph groups mode slack c).means p) where
@@ -97,12 +97,12 @@ module _ (held : List ℕ → Held) where
 
       -- a run with a plan has a text, or a line of its vectors has a fault
       pub run_decided : (vec : List ℕ) (log : Bool) (jobs : ℕ) (stop : Option ℕ) → HasBytes (held vec) → 1 ≤ jobs → IsDecided (planned_run_stage held vec log jobs stop c p)
-      run_decided vec log jobs None there some =
-          then_decided (streamed_stage held vec (most_vectors log) c) (traced_stage log c p) (streamed_decided held vec (most_vectors log) c there) (λ vectors read.
+      run_decided vec log jobs None has_bytes some =
+          then_decided (streamed_stage held vec (most_vectors log) c) (traced_stage log c p) (streamed_decided held vec (most_vectors log) c has_bytes) (λ vectors read.
           let (text, is) = run_texts_exist p vectors.rows (runnable vectors.rows (streamed_wide held vec (most_vectors log) c vectors read)) log in
           inl (text, (same, is)))
-      run_decided vec log jobs (Some stop) there some =
-          then_decided (vectors_stage held vec c) (stopped_stage log jobs stop c p) (vectors_decided held vec c there) (λ vectors read.
+      run_decided vec log jobs (Some stop) has_bytes some =
+          then_decided (vectors_stage held vec c) (stopped_stage log jobs stop c p) (vectors_decided held vec c has_bytes) (λ vectors read.
           let (text, is) = stopped_texts_exist p vectors.rows (runnable vectors.rows (vectors_wide held vec c vectors read)) log stop jobs some in
           inl (text, (same, is)))
 
@@ -113,28 +113,28 @@ module _ (held : List ℕ → Held) where
       -- a log has a text, or a fault
       replayed_decided : (log : List ℕ) (transparent : Bool) (vectors : List Row) → HasBytes (held log) → (transparent ≡ true → slack ≡ 0)
           → All (λ vector. length vector ≡ length (columns c)) vectors → IsDecided (replayed_stage held log transparent p vectors)
-      replayed_decided log transparent vectors there without wide =
+      replayed_decided log transparent vectors has_bytes without wide =
           then_decided (log_stage held log p vectors) (λ (events : List ℕ). giving (IsReplayText transparent p vectors events))
-          (then_decided (lines_stage held Log log) (fired_stage log p vectors) (lines_decided held Log log there) (λ lines is. fired_decided log p vectors lines))
+          (then_decided (lines_stage held Log log) (fired_stage log p vectors) (lines_decided held Log log has_bytes) (λ lines is. fired_decided log p vectors lines))
           (λ events (lines, are, fires).
           inl (replay_texts_exist p vectors (runnable vectors wide) transparent (λ wanted. slack_is ∙ without wanted) events (fired_legal p.graph (length vectors) lines events fires)))
 
       -- with the vectors of a file
       pub replay_decided : (vec log : List ℕ) (transparent : Bool) → HasBytes (held vec) → HasBytes (held log) → (transparent ≡ true → slack ≡ 0)
           → IsDecided (then_stage (vectors_stage held vec c) (λ (vectors : Rows). replayed_stage held log transparent p vectors.rows))
-      replay_decided vec log transparent there logged without =
-          then_decided (vectors_stage held vec c) (λ (vectors : Rows). replayed_stage held log transparent p vectors.rows) (vectors_decided held vec c there)
+      replay_decided vec log transparent has_bytes logged without =
+          then_decided (vectors_stage held vec c) (λ (vectors : Rows). replayed_stage held log transparent p vectors.rows) (vectors_decided held vec c has_bytes)
           (λ vectors read. replayed_decided log transparent vectors.rows logged without (vectors_wide held vec c vectors read))
 
       -- the events of a plan have ranks
       pub ranks_decided : IsDecided (ranks_stage p)
       ranks_decided = (let (ranks, are) = live_graphs_have_ranks p.graph is_plan.live in inl (ranks_text p.graph ranks, (ranks, are, refl)))
 
-      -- and a period with the delays of a file that is there, or a line of them has a fault
+      -- and a period with the delays of a file with bytes, or a line of them has a fault
       pub timed_decided : (file : List ℕ) → HasBytes (held file) → IsDecided (timed_stage held file p.graph)
-      timed_decided file there =
+      timed_decided file has_bytes =
           then_decided (delays_stage held file p.graph) (λ (delays : List ℕ). giving (IsPeriodText p.graph delays))
-          (then_decided (lines_stage held Delays file) (given_stage file p.graph) (lines_decided held Delays file there) (λ lines are. result_decided (read_or_line file delay_text (delays_of p.graph lines))))
+          (then_decided (lines_stage held Delays file) (given_stage file p.graph) (lines_decided held Delays file has_bytes) (λ lines are. result_decided (read_or_line file delay_text (delays_of p.graph lines))))
           (λ delays (lines, are, read).
           let (q, r, cycle, potentials, period) = plans_are_timed p.split p.graph is_plan lines delays (read_meant file delay_text (delays_of p.graph lines) delays read) in
           inl (period_text p.graph q r cycle potentials, record { p = q; q = r; cycle = cycle; potentials = potentials; period = period; spelt = refl }))

@@ -1,4 +1,4 @@
--- A netlist that is there is accepted, or a line names its fault.
+-- A netlist of a file with bytes is accepted, or a line names its fault.
 use Rattle.std.proofs.Common.{◌≢◌, ℕ, List, inl, inr, refl, sym, subst}
 use Rattle.ds_outside.specs.Held.{Held}
 use Rattle.ds_blif.specs.Text.{models_of_text}
@@ -16,7 +16,7 @@ use Rattle.ds_stage.specs.Stage.{Stage, then_stage}
 use Rattle.ds_stage.specs.Stages.{accepted_stage, file_stage, netlist_stage}
 use Rattle.ds_stage.proofs.FileMeaning.{netlist_in_range, read_meant}
 use Rattle.ds_total_laws.specs.Decided.{IsDecided}
-use Rattle.ds_total_laws.specs.There.{HasBytes}
+use Rattle.ds_total_laws.specs.FileBytes.{HasBytes}
 use Rattle.ds_total_laws.proofs.StagesDecided.{file_decided, then_decided}
 
 -- each fault but want of memory has a text
@@ -43,15 +43,15 @@ module _ (held : List ℕ → Held) (file : List ℕ) where
     | inr (fault, known, is) ↦ (let (text, shown) = net_text_there c fault known in inr (file_line file text, (fault, text, is, shown, refl)))
   ]
 
-  -- a file that is there has a design that is accepted, or a line names a fault
+  -- a file with bytes has a design that is accepted, or a line names a fault
   pub netlist_decided : HasBytes (held file) → IsDecided (netlist_stage held file)
-  netlist_decided there =
-      then_decided (file_stage held file) (accepted_stage file) (file_decided held file there) (λ c is. accepted_decided c (flat_named held file c is))
+  netlist_decided has_bytes =
+      then_decided (file_stage held file) (accepted_stage file) (file_decided held file has_bytes) (λ c is. accepted_decided c (flat_named held file c is))
 
   -- what stands behind a netlist is decided where it is for each accepted design in range
   pub behind_netlist : (next : Circuit → Stage (List ℕ)) → HasBytes (held file)
       → ((c : Circuit) → IsInRange c → IsAccepted c → IsDecided (next c)) → IsDecided (then_stage (netlist_stage held file) next)
-  behind_netlist next there each =
-      then_decided (netlist_stage held file) next (netlist_decided there) (λ c is.
+  behind_netlist next has_bytes each =
+      then_decided (netlist_stage held file) next (netlist_decided has_bytes) (λ c is.
       let (flat, is_flat, (same, accepts)) = is in
       each c (netlist_in_range held file c is) (subst (λ (d : Circuit). IsAccepted d) (sym same) accepts))

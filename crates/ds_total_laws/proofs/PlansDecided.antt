@@ -22,7 +22,7 @@ use Rattle.ds_stage.specs.SplitStage.{split_stage}
 use Rattle.ds_stage.specs.PlanStage.{acceptable_stage, marked_stage, named_stage, plan_stage, planned_stage}
 use Rattle.ds_stage.proofs.FileMeaning.{read_meant}
 use Rattle.ds_total_laws.specs.Decided.{IsDecided}
-use Rattle.ds_total_laws.specs.There.{HasBytesIn, HasBytes}
+use Rattle.ds_total_laws.specs.FileBytes.{HasBytesIn, HasBytes}
 use Rattle.ds_total_laws.proofs.StagesDecided.{lines_decided, result_decided, then_decided}
 use Rattle.ds_total_laws.proofs.Splits.{IsReady, graph_there, ready_with, split_decided, split_ready}
 
@@ -52,20 +52,20 @@ module _ (held : List ℕ → Held) where
       (result_decided (read_or_line file astg_text (graph_of_lines lines)))
       (λ g is. acceptable_decided file s g ready (read_kept lines g (read_meant file astg_text (graph_of_lines lines) g is)))
 
-  -- the graph of a file that is there has a plan, or a fault
+  -- the graph of a file with bytes has a plan, or a fault
   named_decided : (file : List ℕ) (s : Split) → HasBytes (held file) → IsReady s → IsDecided (named_stage held file s)
-  named_decided file s there ready =
-      then_decided (lines_stage held which.Graph file) (marked_stage file s) (lines_decided held which.Graph file there) (λ lines is. marked_decided file s lines ready)
+  named_decided file s has_bytes ready =
+      then_decided (lines_stage held which.Graph file) (marked_stage file s) (lines_decided held which.Graph file has_bytes) (λ lines is. marked_decided file s lines ready)
 
   plan_decided : (graph : Option (List ℕ)) (s : Split) → HasBytesIn held graph → IsReady s → IsDecided (plan_stage held graph s)
-  plan_decided None s there ready =
+  plan_decided None s has_bytes ready =
       let (g, is) = graph_there s ready in
       inl (record { split = s; graph = g }, record { split = refl; graph = is })
-  plan_decided (Some file) s there ready = named_decided file s there ready
+  plan_decided (Some file) s has_bytes ready = named_decided file s has_bytes ready
 
   -- an accepted netlist has a plan, or a line refuses it
   pub planned_decided : (file : List ℕ) (graph groups : Option (List ℕ)) (mode : Mode) (slack : ℕ) → HasBytesIn held graph → HasBytesIn held groups
       → (c : Circuit) → IsAccepted c → IsDecided (planned_stage held file graph groups mode slack c)
-  planned_decided file graph groups mode slack there grouped c accepts =
+  planned_decided file graph groups mode slack has_bytes grouped c accepts =
       then_decided (split_stage held file groups mode c) (λ (s : Split). plan_stage held graph (slackened s slack)) (split_decided held file groups mode grouped c accepts)
-      (λ s is. plan_decided graph (slackened s slack) there (ready_with s slack (split_ready held file groups mode grouped c accepts s is)))
+      (λ s is. plan_decided graph (slackened s slack) has_bytes (ready_with s slack (split_ready held file groups mode grouped c accepts s is)))

@@ -32,7 +32,7 @@ use Rattle.ds_stage.specs.TimesStage.{IsTimesText, scheduled_stage, time_lines}
 use Rattle.ds_stage.proofs.FileMeaning.{read_meant}
 use Rattle.ds_app.specs.JobStages.{rate_stage}
 use Rattle.ds_total_laws.specs.Decided.{IsDecided}
-use Rattle.ds_total_laws.specs.There.{HasBytes}
+use Rattle.ds_total_laws.specs.FileBytes.{HasBytes}
 use Rattle.ds_total_laws.proofs.StagesDecided.{lines_decided, result_decided, then_decided}
 
 -- a graph has a cycle, or none
@@ -80,28 +80,28 @@ times_there g live delays turns =
 
 module _ (held : List ℕ → Held) where
   delays_decided : (file : List ℕ) (g : Graph) → HasBytes (held file) → IsDecided (delays_stage held file g)
-  delays_decided file g there =
-      then_decided (lines_stage held Delays file) (given_stage file g) (lines_decided held Delays file there)
+  delays_decided file g has_bytes =
+      then_decided (lines_stage held Delays file) (given_stage file g) (lines_decided held Delays file has_bytes)
       (λ lines are. result_decided (read_or_line file delay_text (delays_of g lines)))
 
   bare_decided : (file : List ℕ) → HasBytes (held file) → IsDecided (bare_graph_stage held file)
-  bare_decided file there =
-      then_decided (lines_stage held which.Graph file) (bare_stage file) (lines_decided held which.Graph file there)
+  bare_decided file has_bytes =
+      then_decided (lines_stage held which.Graph file) (bare_stage file) (lines_decided held which.Graph file has_bytes)
       (λ lines are. then_decided (result_stage (read_or_line file astg_text (graph_of_lines lines))) (cyclic_stage file)
       (result_decided (read_or_line file astg_text (graph_of_lines lines)))
       (λ g is. cyclic_decided file g (read_kept lines g (read_meant file astg_text (graph_of_lines lines) g is))))
 
   -- `rate` has a text, or a line refuses it
   pub rate_decided : (job : RateJob) → HasBytes (held job.graph) → HasBytes (held job.delays) → IsDecided (rate_stage held job)
-  rate_decided job named there =
+  rate_decided job named has_bytes =
       then_decided (bare_graph_stage held job.graph) (timed_stage held job.delays) (bare_decided job.graph named)
       (λ g (lines, are, (h, is, (same, has))).
-      then_decided (delays_stage held job.delays g) (λ (delays : List ℕ). giving (IsPeriodText g delays)) (delays_decided job.delays g there)
+      then_decided (delays_stage held job.delays g) (λ (delays : List ℕ). giving (IsPeriodText g delays)) (delays_decided job.delays g has_bytes)
       (λ delays (rows, read, given).
       inl (period_there g (subst (λ (k : Graph). HasPeriod k) (sym same) has) rows delays (read_meant job.delays delay_text (delays_of g rows) delays given))))
 
-  -- a live graph has times with the delays of a file that is there, or a line of them has a fault
+  -- a live graph has times with the delays of a file with bytes, or a line of them has a fault
   pub scheduled_decided : (file : List ℕ) (turns : ℕ) (g : Graph) → IsLive g → HasBytes (held file) → IsDecided (scheduled_stage held file turns g)
-  scheduled_decided file turns g live there =
-      then_decided (delays_stage held file g) (λ (delays : List ℕ). giving (IsTimesText g delays turns)) (delays_decided file g there)
+  scheduled_decided file turns g live has_bytes =
+      then_decided (delays_stage held file g) (λ (delays : List ℕ). giving (IsTimesText g delays turns)) (delays_decided file g has_bytes)
       (λ delays are. inl (times_there g live delays turns))

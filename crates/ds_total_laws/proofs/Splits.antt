@@ -33,7 +33,7 @@ use Rattle.ds_stage.specs.SplitStage.{IsInClusters, parted_stage, split_stage}
 use Rattle.ds_stage.proofs.FileMeaning.{read_meant}
 use Rattle.ds_stage.proofs.PlanAccepted.{in_clusters_split}
 use Rattle.ds_total_laws.specs.Decided.{IsDecided}
-use Rattle.ds_total_laws.specs.There.{HasBytesIn}
+use Rattle.ds_total_laws.specs.FileBytes.{HasBytesIn}
 use Rattle.ds_total_laws.proofs.StagesDecided.{lines_decided, result_decided, then_decided}
 use Rattle.ds_total_laws.proofs.LineSome.{lines_have_some}
 
@@ -58,10 +58,10 @@ controller_decided file shake s ready =
     let (edges, are, once) = edges_listed s ready.split.accepted in
     controllers_are_decided file shake s edges are once ready.few
 
--- groups of a file that is there are disjoint
+-- groups of a file with bytes are disjoint
 groups_disjoint : (held : List ℕ → Held) (groups : Option (List ℕ)) → HasBytesIn held groups → (c : Circuit) (gs : List (List ℕ)) → (groups_stage held groups c).means gs
     → AreDisjoint (length c.registers) gs
-groups_disjoint held None there c gs are = none_disjoint (length c.registers) gs are
+groups_disjoint held None has_bytes c gs are = none_disjoint (length c.registers) gs are
 groups_disjoint held (Some file) (text, is) c gs (lines, read, found) =
     let told : OfBytes (bytes text) (λ t. (text_stage file t).means lines) = subst (λ (h : Held). OfBytes h (λ t. (text_stage file t).means lines)) is read in
     disjoint_of c lines gs (subst HaveWords (sym told.1) (lines_have_some text))
@@ -69,9 +69,9 @@ groups_disjoint held (Some file) (text, is) c gs (lines, read, found) =
 
 -- they are read, or a line refuses them
 groups_decided : (held : List ℕ → Held) (groups : Option (List ℕ)) → HasBytesIn held groups → (c : Circuit) → IsDecided (groups_stage held groups c)
-groups_decided held None there c = inl ([], refl)
-groups_decided held (Some file) there c =
-    then_decided (lines_stage held which.Groups file) (grouped_stage file c) (lines_decided held which.Groups file there)
+groups_decided held None has_bytes c = inl ([], refl)
+groups_decided held (Some file) has_bytes c =
+    then_decided (lines_stage held which.Groups file) (grouped_stage file c) (lines_decided held which.Groups file has_bytes)
     (λ lines is. result_decided (read_or_line file group_text (groups_of (register_names c) lines)))
 
 module _ (file : List ℕ) (mode : Mode) (c : Circuit) (accepts : IsAccepted c) (gs : List (List ℕ)) (disjoint : AreDisjoint (length c.registers) gs) where
@@ -99,17 +99,17 @@ module _ (file : List ℕ) (mode : Mode) (c : Circuit) (accepts : IsAccepted c) 
         | inr few ↦ inl (clusters, (are, few))
       ]
 
-module _ (held : List ℕ → Held) (file : List ℕ) (groups : Option (List ℕ)) (mode : Mode) (there : HasBytesIn held groups) (c : Circuit) (accepts : IsAccepted c) where
+module _ (held : List ℕ → Held) (file : List ℕ) (groups : Option (List ℕ)) (mode : Mode) (has_bytes : HasBytesIn held groups) (c : Circuit) (accepts : IsAccepted c) where
   -- a split design that is given is ready
   pub split_ready : (s : Split) → (split_stage held file groups mode c).means s → IsReady s
   split_ready s (gs, are, (is, few)) = record { split = in_clusters_split mode gs c s accepts is; few = few }
 
   pub split_decided : IsDecided (split_stage held file groups mode c)
   split_decided =
-      then_decided (groups_stage held groups c) (parted_stage file mode c) (groups_decided held groups there c)
-      (λ gs are. parted_decided file mode c accepts gs (groups_disjoint held groups there c gs are))
+      then_decided (groups_stage held groups c) (parted_stage file mode c) (groups_decided held groups has_bytes c)
+      (λ gs are. parted_decided file mode c accepts gs (groups_disjoint held groups has_bytes c gs are))
 
   pub clustered_decided : IsDecided (clustered_stage held file groups mode c)
   clustered_decided =
-      then_decided (groups_stage held groups c) (clusters_stage file mode c) (groups_decided held groups there c)
-      (λ gs are. listed_decided file mode c accepts gs (groups_disjoint held groups there c gs are))
+      then_decided (groups_stage held groups c) (clusters_stage file mode c) (groups_decided held groups has_bytes c)
+      (λ gs are. listed_decided file mode c accepts gs (groups_disjoint held groups has_bytes c gs are))

@@ -1,4 +1,4 @@
--- Stages of files that are there are decided: each gives something, or refuses with some line.
+-- Stages of files with bytes are decided: each gives something, or refuses with some line.
 use Rattle.std.proofs.Common.{◌⊎◌, ℕ, List, length, Result, Ok, Err, inl, inr, refl, sym, subst}
 use Rattle.std.proofs.lemmas.Bool.{cases_lt}
 use Rattle.ds_base.specs.Limit.{most_of}
@@ -16,7 +16,7 @@ use Rattle.ds_stage.specs.FaultText.{blif_text, file_line, flat_text, too_long_t
 use Rattle.ds_stage.specs.Stage.{Stage, then_stage}
 use Rattle.ds_stage.specs.Stages.{OfBytes, design_stage, file_stage, lines_stage, read_or_line, result_stage, rows_stage, text_stage, vectors_stage}
 use Rattle.ds_total_laws.specs.Decided.{IsDecided}
-use Rattle.ds_total_laws.specs.There.{HasBytes}
+use Rattle.ds_total_laws.specs.FileBytes.{HasBytes}
 
 -- stages one after another are decided, where the second is of what the first gives
 pub then_decided : {A B : Type 0} (first : Stage A) (next : A → Stage B) → IsDecided first
@@ -41,7 +41,7 @@ HeldDecided name h =
     ((lines : List Line) × OfBytes h (λ text. (text_stage name text).means lines))
     ⊎ ((line : List ℕ) × OfBytes h (λ text. (text_stage name text).refused line))
 
--- a file that is there has lines, or is too long
+-- a file with bytes has lines, or is too long
 pub lines_decided : (held : List ℕ → Held) (which : Which) (name : List ℕ) → HasBytes (held name) → IsDecided (lines_stage held which name)
 lines_decided held which name (text, is) = subst (HeldDecided name) (sym is) (text_decided name text)
 
@@ -58,17 +58,17 @@ design_decided file lines =
     (result_decided (read_or_line file blif_text (models_of_text lines)))
     (λ models is. result_decided (read_or_line file flat_text (flat_of models)))
 
--- a file that is there has a flat design, or a fault
+-- a file with bytes has a flat design, or a fault
 pub file_decided : (held : List ℕ → Held) (net : List ℕ) → HasBytes (held net) → IsDecided (file_stage held net)
-file_decided held net there =
-    then_decided (lines_stage held Net net) (design_stage net) (lines_decided held Net net there) (λ lines is. design_decided net lines)
+file_decided held net has_bytes =
+    then_decided (lines_stage held Net net) (design_stage net) (lines_decided held Net net has_bytes) (λ lines is. design_decided net lines)
 
 -- lines have vectors, or a fault
 pub rows_decided : (file : List ℕ) (width : ℕ) (lines : List Line) → IsDecided (rows_stage file width lines)
 rows_decided file width lines = result_decided (read_or_line file vector_text (vectors_of width lines))
 
--- a file that is there has vectors, or a fault
+-- a file with bytes has vectors, or a fault
 pub vectors_decided : (held : List ℕ → Held) (vec : List ℕ) (c : Circuit) → HasBytes (held vec) → IsDecided (vectors_stage held vec c)
-vectors_decided held vec c there =
-    then_decided (lines_stage held Vectors vec) (rows_stage vec (length (columns c))) (lines_decided held Vectors vec there)
+vectors_decided held vec c has_bytes =
+    then_decided (lines_stage held Vectors vec) (rows_stage vec (length (columns c))) (lines_decided held Vectors vec has_bytes)
     (λ lines is. rows_decided vec (length (columns c)) lines)

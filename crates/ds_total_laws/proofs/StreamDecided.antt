@@ -1,4 +1,4 @@
--- The vectors of a file that is there and read window by window are rows, or a line has a fault.
+-- The vectors of a file with bytes read window by window are rows, or a line has a fault.
 use Rattle.std.proofs.Common.{◌≡◌, ◌⊎◌, ◌+◌, ℕ, List, [], ◌∷◌, length, Option, None, Some, inl, inr, refl, sym, subst, nat_lt}
 use Rattle.std.proofs.lemmas.Bool.{cases_Bool}
 use Rattle.ds_outside.specs.Held.{Held, bytes}
@@ -13,7 +13,7 @@ use Rattle.ds_stage.specs.FaultText.{file_line, numbered_line}
 use Rattle.ds_stage.specs.Stages.{OfBytes}
 use Rattle.ds_stage.specs.StreamStage.{AreRowsOf, IsFaultLine, IsStreamLine, gives_held, past_longest_text, stream_text, streamed_stage}
 use Rattle.ds_total_laws.specs.Decided.{IsDecided}
-use Rattle.ds_total_laws.specs.There.{HasBytes}
+use Rattle.ds_total_laws.specs.FileBytes.{HasBytes}
 
 module _ (file : List ℕ) where
   -- there is no stop, or one that a line names
@@ -58,7 +58,7 @@ module _ (file : List ℕ) where
   held_streams width most text =
       stream_gives width (stream_of width most text) (lines_stop width most (length text) 0 (placed_lines text))
 
--- a file that is there gives rows, or the line of its fault
+-- a file with bytes gives rows, or the line of its fault
 pub streamed_decided : (held : List ℕ → Held) (vec : List ℕ) (most : ℕ) (c : Circuit) → HasBytes (held vec) → IsDecided (streamed_stage held vec most c)
 streamed_decided held vec most c (text, is) =
     subst (HeldStreams vec (length (columns c)) most) (sym is) (held_streams vec (length (columns c)) most text)

@@ -1,5 +1,5 @@
 -- In the order in which to read.
-pub mod There
+pub mod FileBytes
 pub mod Absent
 pub mod Decided
 pub mod Statuses

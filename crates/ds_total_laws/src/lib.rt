@@ -5,7 +5,7 @@
 //! wants memory. Where a file is not there, the status is 3 or 4, or a line refuses what stands
 //! before it. And what `period` and `rate` print is one text but for the line of the cycle.
 //!
-//! `specs/There` says which files a job names, and when they are there: they have bytes;
+//! `specs/FileBytes` says which files a job names, and when they are there and tell their bytes;
 //! `specs/Decided` says what is decided. `proofs/EachJob` puts the law together, stage by stage,
 //! from the laws that ranks, walks, splits, graphs, plans, firings and periods are there. That no
 //! stage does both is the law `jobs_are_exclusive` of `ds_app`.

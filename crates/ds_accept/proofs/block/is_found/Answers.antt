@@ -4,10 +4,10 @@ use Rattle.ds_accept.proofs.block.is_found.Goals as goal
 
 pub overflow_mul-place : goal.overflow_mul-place
 overflow_mul-place c = let (near, _) = c.requires.inside in
-    let low : c.loop-level.level < c.args.levels = omega arith in
-    omega (arith, place_lt c.args.events c.args.levels c.loop-level.level c.args.order.now.target low near)
+    let low : c.loop-token_sum.token_sum < c.args.bound = omega arith in
+    omega (arith, place_lt c.args.events c.args.bound c.loop-token_sum.token_sum c.args.order.now.target low near)
 
 pub overflow_add-place : goal.overflow_add-place
 overflow_add-place c = let (near, _) = c.requires.inside in
-    let low : c.loop-level.level < c.args.levels = omega arith in
-    omega (arith, place_lt c.args.events c.args.levels c.loop-level.level c.args.order.now.target low near)
+    let low : c.loop-token_sum.token_sum < c.args.bound = omega arith in
+    omega (arith, place_lt c.args.events c.args.bound c.loop-token_sum.token_sum c.args.order.now.target low near)

@@ -4,8 +4,8 @@ use Rattle.ds_accept.proofs.unmet.unmet_by.Given as goal
 
 abbrev pub invariant-sweeps : goal.invariant-sweeps
 invariant-sweeps l = record {
-  size : length l.masks ≡ l.search.levels * l.search.events;
-  walks : AreWalks l.search.arcs.now l.block.sources.items l.search.events l.search.levels l.masks;
+  size : length l.masks ≡ l.search.bound * l.search.events;
+  walks : AreWalks l.search.arcs.now l.block.sources.items l.search.events l.search.bound l.masks;
   starts : (b : ℕ) → b < length l.block.sources.items → IsReachedAt l.search.events l.masks 0 (get_or l.block.sources.items b 0) b;
 }
 

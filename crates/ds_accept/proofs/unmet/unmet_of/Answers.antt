@@ -11,8 +11,8 @@ pub unmet_in-requires-2-clause-asked : goal.unmet_in-requires-2-clause-asked
 unmet_in-requires-2-clause-asked c = subst (AreEnds c.args.search.now.events) (sym c.requires.capped)
     (capped_ends c.args.search.now.asked.now c.args.search.now.events c.requires.asked)
 
-pub unmet_in-requires-2-clause-levels : goal.unmet_in-requires-2-clause-levels
-unmet_in-requires-2-clause-levels c = subst (λ (few : List Arc). All (λ arc. arc.tokens < 2) few) (sym c.requires.capped)
+pub unmet_in-requires-2-clause-bound : goal.unmet_in-requires-2-clause-bound
+unmet_in-requires-2-clause-bound c = subst (λ (few : List Arc). All (λ arc. arc.tokens < 2) few) (sym c.requires.capped)
     (capped_tokens c.args.search.now.asked.now)
 
 pub unmet_in-requires-2-clause-block : goal.unmet_in-requires-2-clause-block

@@ -20,4 +20,4 @@ returns g c =
     let is_cluster : (get_or c.args.homes.now c.args.r no_home).cluster < length (split_of c.args.state.now).clusters = subst (λ (s : Split). home.cluster < length s.clusters) (sym c.requires.split) inside in
     let stored : c.stored.result.now ≡ stored_values c.args.state.now (Slave (get_or c.args.homes.now c.args.r no_home).cluster) = c.stored.ensures.value (Slave home.cluster) is_cluster (sym c.latch-slave.ensures) in
     with_put (line_is c.args.state.now c.args.latches.now c.args.homes.now c.args.r c.design.result.now (length c.as_slice-width.result.now) c.stored.result.now c.requires.split (c.design.ensures.design ∙ c.netlist.ensures.netlist) wide stored)
-    (puts_on (puts_on (puts_on c.put_register_name.ensures c.put.ensures) c.put_column.ensures) c.put-2.ensures)
+    (puts_on (puts_on (puts_on c.put_register_name.ensures c.put.ensures) c.put_at_place.ensures) c.put-2.ensures)

@@ -2,7 +2,7 @@ use Rattle.std.proofs.Common.{◌≡◌, ◌+◌, ◌/◌, ◌<◌, length, get_
 use Rattle.std.proofs.Math.Nat.{div-le_self}
 use Rattle.ds_base.specs.declared.value.Value.TheVariants.{Zero}
 use Rattle.ds_rows.specs.Log.{at_place}
-use Rattle.ds_rows.proofs.Columns.{inside_rows}
+use Rattle.ds_rows.proofs.JoinedAtPlace.{inside_rows}
 use Rattle.ds_rows.proofs.RowText.{char_more}
 use Rattle.ds_rows.proofs.ValueWords.{code_told, places_long}
 use Rattle.ds_rows.proofs.stored.fill.Goals as goal
