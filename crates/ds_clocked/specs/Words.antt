@@ -1,5 +1,5 @@
 -- Windows whose lines are written out of words.
-use Rattle.std.specs.Prelude.{◌≡◌, ℕ, List, Option, IfSome, length, All}
+use Rattle.std.specs.Prelude.{◌≡◌, ℕ, List, length, All}
 use Rattle.ds_base.specs.Values.{AreKnown, Row}
 use Rattle.ds_cover.specs.Cover.{values_at}
 use Rattle.ds_design.specs.Circuit.{Circuit, register_nets}
@@ -7,12 +7,7 @@ use Rattle.ds_design.specs.Trace.{trace_lines}
 use Rattle.ds_outside.specs.Pen.{Puts, Writing}
 use Rattle.ds_slices.specs.Ready.{AreReady}
 use Rattle.ds_slices.specs.Turns.{turn_row}
-use Rattle.ds_slices.specs.declared.slices.Slices.{Slices}
 use Rattle.ds_clocked.specs.declared.words.Sliced.{Sliced}
-
--- room for words, where it is kept from window to window
-abbrev pub AreKept : Circuit → Option Slices → Type 0
-AreKept c slices = IfSome slices (AreReady c)
 
 -- room for a window that begins with these registers, and all values are known
 pub record IsKnownWindow (c : Circuit) (start : Row) (vectors : List Row) (words : Sliced)

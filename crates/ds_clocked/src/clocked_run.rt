@@ -18,14 +18,15 @@ pub struct ClockedRun<'n> {
 }
 
 impl<'n> Model for ClockedRun<'n> {
+    ghost use Rattle.std.specs.Prelude.{IfSome};
     ghost use Rattle.ds_design.specs.Circuit.{Circuit};
-    ghost use Rattle.ds_clocked.specs.Words.{AreKept};
+    ghost use Rattle.ds_slices.specs.Ready.{AreReady};
 
     ghost Value = { Circuit };
 
     ghost view = { λ r. r.netlist.now };
 
-    ghost invariant = { λ r. AreKept r.netlist.now r.slices };
+    ghost invariant = { λ r. IfSome r.slices (AreReady r.netlist.now) };
 }
 
 impl<'n> ClockedRun<'n> {

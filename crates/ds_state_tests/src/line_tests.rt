@@ -7,16 +7,16 @@ use ds_stage::{Stop, no_groups, own_plan, put_time, read_netlist, split_groups};
 use ds_trial::{TOGGLE, files};
 use std::alloc::Global;
 
-// A firing: its event, its turn and, where the line has one, its time.
+// A firing: its event, its turn and, if the line has it, its time.
 #[derive(Clone, Copy)]
-struct Firing {
+struct TimedFiring {
     event: EventId,
     turn: u32,
     time: Option<u128>,
 }
 
 // Writes the line of a firing, and says whether no write failed.
-fn is_written(plan: &Plan<'_>, firing: Firing, sink: &mut MemorySink) -> bool {
+fn is_written(plan: &Plan<'_>, firing: TimedFiring, sink: &mut MemorySink) -> bool {
     let Some(time) = firing.time else {
         return firing_line(plan, firing.event, u64::from(firing.turn), sink).is_ok();
     };
@@ -26,7 +26,7 @@ fn is_written(plan: &Plan<'_>, firing: Firing, sink: &mut MemorySink) -> bool {
 }
 
 // Whether the line of a firing of a toggle is this text.
-fn is_line(alloc: Global, firing: Firing, text: &str) -> Result<bool, Stop> {
+fn is_line(alloc: Global, firing: TimedFiring, text: &str) -> Result<bool, Stop> {
     let mut files = files(alloc, &[("n", TOGGLE)])?;
     let netlist = read_netlist(alloc, &mut files, "n")?;
     let latches = split_groups(alloc, "n", &netlist, Mode::Each, &no_groups(alloc))?;
@@ -50,7 +50,7 @@ fn the_line_of_a_firing_has_the_event_and_the_turn(rt: HostRuntime) {
     ] {
         let event = EventId::new(event);
         let time = None;
-        let firing = Firing { event, turn, time };
+        let firing = TimedFiring { event, turn, time };
         let is = is_line(rt.alloc(), firing, text);
         assert!(rt; is.is_ok_and(|is| is), "{text}");
     }
@@ -69,7 +69,7 @@ fn times_past_64_bits_are_written_whole(rt: HostRuntime) {
         let event = EventId::new(6);
         let time = Some(time);
         let turn = 7;
-        let firing = Firing { event, turn, time };
+        let firing = TimedFiring { event, turn, time };
         let is = is_line(rt.alloc(), firing, text);
         assert!(rt; is.is_ok_and(|is| is), "{text}");
     }
