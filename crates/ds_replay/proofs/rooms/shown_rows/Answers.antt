@@ -1,5 +1,5 @@
 use Rattle.std.proofs.Common.{◌≡◌, ◌∙◌, ◌<◌, ◌+◌, ℕ, List, [], ◌∷◌, ◌++◌, length, get_or, ap, arith, sym, subst}
-use Rattle.std.proofs.lemmas.Result.{err_from_is_err_and}
+use Rattle.std.proofs.lemmas.Result.{IfOk-from_err}
 use Rattle.std.proofs.lemmas.List.{length-replicate, length_push}
 use Rattle.ds_base.specs.Values.{Row}
 use Rattle.ds_base.specs.declared.value.Value.TheVariants.{Zero}
@@ -24,20 +24,16 @@ loop-number-preserved c =
     }
 
 pub returns-in_err-nets : goal.returns-in_err-nets
-returns-in_err-nets c =
-    let p = err_from_is_err_and c.from_residual.result c.from_residual.ensures.1 in rw p.1 tt
+returns-in_err-nets c = let (wrong, _) = c.from_residual.ensures in IfOk-from_err c.from_residual.result _ wrong
 
 pub returns-in_err-rows : goal.returns-in_err-rows
-returns-in_err-rows c =
-    let p = err_from_is_err_and c.from_residual-in_err-rows.result c.from_residual-in_err-rows.ensures.1 in rw p.1 tt
+returns-in_err-rows c = let (wrong, _) = c.from_residual-in_err-rows.ensures in IfOk-from_err c.from_residual-in_err-rows.result _ wrong
 
 pub returns-in_err-row : goal.returns-in_err-row
-returns-in_err-row c =
-    let p = err_from_is_err_and c.from_residual-in_err-row.result c.from_residual-in_err-row.ensures.1 in rw p.1 tt
+returns-in_err-row c = let (wrong, _) = c.from_residual-in_err-row.ensures in IfOk-from_err c.from_residual-in_err-row.result _ wrong
 
 pub returns-in_err-push : goal.returns-in_err-push
-returns-in_err-push c =
-    let p = err_from_is_err_and c.from_residual-in_err-push.result c.from_residual-in_err-push.ensures.1 in rw p.1 tt
+returns-in_err-push c = let (wrong, _) = c.from_residual-in_err-push.ensures in IfOk-from_err c.from_residual-in_err-push.result _ wrong
 
 pub loop-number-init : goal.loop-number-init
 loop-number-init c =

@@ -5,12 +5,12 @@ use Rattle.ds_replay.proofs.Blocking.{bad_line, found_event, line_is, unknown_li
 use Rattle.ds_replay.proofs.step.step.Goals as goal
 
 pub returns-in-Ok : goal.returns-in-Ok
-returns-in-Ok c =
+returns-in-Ok c = let (fired, now_fired) = c.in-Ok.ensures in
     let now = c.args.state.now in
     let words = map (λ w. w.now) c.args.words.now in
     let (at, inside) = found_event (graph_of now) c.args.events.now words c.word-named.result.now c.in-Some-find.event c.requires c.word-named.ensures c.in-Some-find.ensures in (
-      line_is (graph_of now) (limit_of now) (count_of now) words c.in-Some.turn c.in-Some-find.event None (sym c.turn_of.ensures ∙ c.in-Some.is) at inside c.in-Ok.ensures.0,
-      subst (λ (v : ℕ). IsFired now v c.fire.new.state) at c.in-Ok.ensures.1,
+      line_is (graph_of now) (limit_of now) (count_of now) words c.in-Some.turn c.in-Some-find.event None (sym c.turn_of.ensures ∙ c.in-Some.is) at inside fired,
+      subst (λ (v : ℕ). IsFired now v c.fire.new.state) at now_fired,
     )
 
 pub returns-in-Err : goal.returns-in-Err
