@@ -1,7 +1,8 @@
-use Rattle.std.proofs.Common.{◌∙◌, ℕ, false, List, [], Err, length, ap, arith, refl}
+use Rattle.std.proofs.Common.{◌≡◌, ◌∙◌, ℕ, false, List, [], Err, length, ap, arith, refl, subst, sym}
 use Rattle.std.proofs.lemmas.Result.{err_from_is_err_and}
 use Rattle.ds_outside.specs.Held.{Held}
-use Rattle.ds_design.specs.Circuit.{Circuit, initial_row}
+use Rattle.ds_clocked.specs.Appends.{AppendsLines, AppendsLinesPart}
+use Rattle.ds_design.specs.Circuit.{Circuit, columns, initial_row}
 use Rattle.ds_design.specs.Trace.{end_line}
 use Rattle.ds_stream.specs.Stream.{Shown}
 use Rattle.ds_stage.specs.Stages.{trace_stage}
@@ -26,6 +27,7 @@ windows-init g c =
       never_falls = λ w n. omega arith;
       never_fell = omega arith;
       few = omega arith;
+      circuit = c.new-run.ensures;
       so_far = none_so_far (g.F.Files.held c.args.files.now) c.args.vec.now c.args.netlist.now 4294967295 c.new-reader.result c.in_ok-state.state (g.O.Sink.written c.args.out.now)
           (record { width = ap (λ (s : Shown). s.width) is ∙ ap length c.columns.ensures; most_is = ap (λ (s : Shown). s.most) is ∙ c.most_vectors.ensures })
           (ap (λ (s : Shown). s.given) is) (c.new-reader.ensures.fits (g.F.Files.held c.args.files.now c.args.vec.now)) c.in_ok-state.ensures.row;
@@ -58,8 +60,15 @@ returns-in_err-behind g c =
       same_writes = unwritten_or c.in_err-behind.field-0.0 kept.same_writes;
     })
 
+pub simulate_from-requires-clause-width : goal.simulate_from-requires-clause-width
+simulate_from-requires-clause-width g c =
+    let is : c.windows.run ≡ c.args.netlist.now = c.windows.invariant.circuit in
+    c.in_ok-behind.ensures.width ∙ ap (λ (k : Circuit). length (columns k)) (sym is)
+
 pub simulate_from-requires-clause-start : goal.simulate_from-requires-clause-start
-simulate_from-requires-clause-start g c = registers_long c.windows.invariant.so_far
+simulate_from-requires-clause-start g c =
+    let is : c.windows.run ≡ c.args.netlist.now = c.windows.invariant.circuit in
+    registers_long c.windows.invariant.so_far ∙ ap (λ (k : Circuit). length k.registers) (sym is)
 
 pub returns-in-Err : goal.returns-in-Err
 returns-in-Err g c =
@@ -70,7 +79,8 @@ returns-in-Err g c =
       value = window_ends kept.so_far c.windows-test.true c.in_ok-behind.behind c.in_ok-behind.vectors read.gives read.width c.count-turns.ensures.kept.one_width c.in_ok-state.ensures.in_range c.in_ok-state.ensures.accepted
           (trace_stage c.args.netlist.now) (trace_spells c.args.netlist.now) (RoseIn (g.F.Files.faults c.args.files.now) (g.F.Files.faults c.read_window.new.files)) (g.O.Sink.written c.simulate_from.new.out)
           (g.O.Sink.faults c.args.out.now) (g.O.Sink.faults c.windows.out) (g.O.Sink.faults c.simulate_from.new.out) kept.never_fell c.in-Err.fault c.stop_of.result c.stop_of.ensures
-          (λ e. is.part (ap Err e)) (λ e. is.cause (ap Err e)) (λ e. is.same (ap Err e));
+          (λ e. subst (λ (k : Circuit). AppendsLinesPart k c.windows.first c.windows.state c.in_ok-behind.vectors.rows (g.O.Sink.written c.windows.out) (g.O.Sink.written c.simulate_from.new.out)) kept.circuit (is.part (ap Err e)))
+          (λ e. is.cause (ap Err e)) (λ e. is.same (ap Err e));
       same_held = read.same_held ∙ kept.so_far.same;
       same_reads = unread_or c.stop_of.result (read.same_reads ∙ kept.same_reads);
       same_writes = same_written c.in-Err.fault c.stop_of.result c.stop_of.ensures (λ e. is.same_faults (λ failed. cc) ∙ kept.same_writes);
@@ -87,8 +97,10 @@ windows-preserved g c =
       never_falls = λ w n. omega (arith, kept.never_falls w n, read.never_falls w n);
       never_fell = omega (arith, kept.never_fell, c.in-Ok.ensures.never_falls);
       few = omega (arith, c.given-first.ensures.few, most_is);
+      circuit = c.in-Ok.ensures.same_circuit ∙ kept.circuit;
       so_far = one_more kept.so_far c.windows-test.true c.in_ok-behind.behind c.in_ok-behind.vectors read.gives read.width c.count-turns.ensures.kept.one_width (g.F.Files.held c.read_window.new.files) read.same_held read.fits read.behind
-          c.given-first.result c.count-turns.result c.given-first.ensures.value c.count-turns.ensures.value c.in-Ok.row (g.O.Sink.written c.simulate_from.new.out) c.in-Ok.ensures.ok;
+          c.given-first.result c.count-turns.result c.given-first.ensures.value c.count-turns.ensures.value c.in-Ok.row (g.O.Sink.written c.simulate_from.new.out)
+          (subst (λ (k : Circuit). AppendsLines k c.windows.first c.windows.state c.in_ok-behind.vectors.rows (g.O.Sink.written c.windows.out) (g.O.Sink.written c.simulate_from.new.out) c.in-Ok.row) kept.circuit c.in-Ok.ensures.ok);
     }
 
 pub returns-in-Ok-end_line : goal.returns-in-Ok-end_line
