@@ -7,9 +7,9 @@ use ds_slices::Slices;
 use std::alloc::Global;
 use std::marker::Model;
 
-/// A netlist that is clocked window by window. Whether a register feeds back is looked for once, in
-/// the first window that is long enough for it; where none does, the room for words is kept. A
-/// caller sees the circuit of the netlist.
+/// A netlist that is clocked window by window. A run looks for feedback once, in the first window
+/// that is long enough; if no register feeds back, it keeps the room for words. A caller sees the
+/// circuit of the netlist.
 #[derive(Drop)]
 pub struct ClockedRun<'n> {
     pub(crate) netlist: &'n Netlist,
@@ -41,7 +41,7 @@ impl<'n> ClockedRun<'n> {
         }
     }
 
-    // Looks for feedback, the first time, and makes the room for words where there is none.
+    // Looks for feedback if nobody has, and makes the room for words if there is none.
     pub(crate) fn ask(&mut self, alloc: Global) -> Result<(), OutOfMemory>
         ensures { self.new ≡ self.old }
     {

@@ -17,7 +17,7 @@ use ds_outside::{Buffered, Pen, Sink, WriteFault};
 use ds_slices::{Slices, begin_turn, put_turn_line, set_state, set_words};
 use std::alloc::Global;
 
-// A run begins to look for feedback in a window of so many turns: to look takes as long as some
+// The least turns of the window in which a run looks for feedback: a look takes as long as some
 // hundred turns.
 const LEAST: usize = 1_024;
 
@@ -31,8 +31,8 @@ pub struct Sliced {
     pub slices: Slices,
 }
 
-// Room for a window that begins with these registers, where it is long, no register feeds back and
-// no value is unknown. It is taken out of the run, which takes it back behind the window.
+// Room for a window that begins with these registers, if it is long enough, no register feeds back
+// and no value is unknown. The room is taken out of the run and is given back after the window.
 pub(crate) fn words_for(
     alloc: Global,
     run: &mut ClockedRun<'_>,
