@@ -12,14 +12,9 @@ use Rattle.ds_stage.specs.PeriodStage.{delays_stage}
 use Rattle.ds_stage.specs.Stage.{Stage, giving, then_stage}
 
 -- the line of a firing: the event, the turn, and the time
-abbrev pub timed_text : Graph → ℕ → ℕ → ℕ → List ℕ
-timed_text g v turn time = text_of_event g v ++ codes " " ++ decimal turn ++ codes " "
-    ++ decimal time ++ codes "\n"
-
--- the line of a firing of a schedule
 abbrev pub time_line : Graph → (ℕ → ℕ → ℕ) → Firing → List ℕ
-time_line g time firing =
-    timed_text g firing.event firing.turn (time firing.event firing.turn)
+time_line g time firing = text_of_event g firing.event ++ codes " " ++ decimal firing.turn
+    ++ codes " " ++ decimal (time firing.event firing.turn) ++ codes "\n"
 
 -- the lines of so many turns, in each of them the events in this order
 abbrev pub time_lines : Graph → (ℕ → ℕ → ℕ) → List ℕ → ℕ → List ℕ

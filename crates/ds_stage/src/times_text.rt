@@ -1,7 +1,7 @@
 //! The lines of a timed run.
 ghost use Rattle.std.specs.Prelude.{◌<◌, length};
 ghost use Rattle.ds_outside.specs.Pen.{Puts};
-ghost use Rattle.ds_stage.specs.TimesStage.{timed_text};
+ghost use Rattle.ds_stage.specs.TimesStage.{time_line};
 
 use ds_base::EventId;
 use ds_latch::{Plan, event_text};
@@ -13,7 +13,7 @@ use itoa::Buffer;
 pub fn put_time<P: Pen>(plan: &Plan<'_>, event: EventId, turn: u32, time: u128, pen: &mut P)
     requires { event < length plan.now.graph.events }
     ensures { Puts (P.writing pen.old) (P.writing pen.new)
-        (timed_text plan.now.graph event turn time) }
+        (time_line plan.now.graph (λ _ _. time) (record { event = event; turn = turn })) }
 {
     let mut of = Buffer::new();
     let mut buffer = Buffer::new();
