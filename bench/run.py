@@ -2,9 +2,9 @@
 """Times `desync clock` and `desync run` beside other simulators, and compares all traces.
 
 It makes netlists by make_netlist.py and make_circuit.py in a folder of its own, and runs each
-simulator on the same netlist and the same vectors. A simulator that is not installed is left out: Icarus Verilog
-(iverilog, vvp), Verilator, Yosys by its C++ simulation (yosys, g++), and interpreter.cpp and
-bytes.cpp (g++).
+simulator on the same netlist and the same vectors. A simulator that is not installed is left out:
+Icarus Verilog (iverilog, vvp), Verilator, Yosys by its C++ simulation (yosys, g++), and
+interpreter.cpp and bytes.cpp (g++).
 Each time is the median of some runs from the start of the process to its end, in seconds, with
 reading and printing; compiling a netlist for a simulator is not counted. The exit status is 1
 where two traces differ.
@@ -286,8 +286,8 @@ def measure(name, turns, words, program, times):
     with tempfile.TemporaryDirectory() as folder:
         maker = "make_circuit.py" if words[0] in CIRCUITS else "make_netlist.py"
         make = [sys.executable, os.path.join(HERE, maker), "--turns", str(turns)]
-        made = subprocess.run(make + [os.path.join(folder, "net")] + words, stdout=subprocess.DEVNULL)
-        made.check_returncode()
+        make += [os.path.join(folder, "net")] + words
+        subprocess.run(make, stdout=subprocess.DEVNULL, check=True)
         runs = {word: ([program, word, "net.blif", "net.vec"], None) for word in ("clock", "run")}
         runs.update(prepare(folder, turns))
         cells, traces = {}, {}

@@ -1,4 +1,4 @@
--- Masks: a word an event and sum of tokens, with a bit a source.
+-- Masks: a word for each event and each sum of tokens, with a bit for each source.
 use Rattle.std.specs.Prelude.{◌≡◌, ◌↔◌, ℕ, ◌+◌, ◌-◌, ◌*◌, ◌<◌, ◌≤◌, Bool, true, false, Option}
 use Rattle.std.specs.Prelude.{None, Some, List, [], length, sum, slice_index, All, Contains}
 use Rattle.std.specs.List.{HoldsAt}

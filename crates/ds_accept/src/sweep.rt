@@ -49,7 +49,8 @@ fn sweep_sum(arcs: &[Arc], events: usize, bound: usize, token_sum: usize, masks:
     requires size { length masks.old ≡ bound * events }
     requires few { (token_sum < bound) × (bound ≤ 256) }
     ensures { IsSwept arcs.now events bound
-        (λ now. All (IsClosedAt events bound now token_sum) arcs.now) masks.old masks.new result }
+        (λ masks. All (IsClosedAt events bound masks token_sum) arcs.now) masks.old masks.new
+        result }
 {
     let mut changed = false;
     for arc in arcs {

@@ -76,8 +76,8 @@ fn first_along(alloc: Global, search: &WalkSearch<'_>) -> Result<Option<usize>, 
     Ok(None)
 }
 
-// The first order of a block that no walk gives. With a bound above two it is tried first
-// whether walks of one token give them all: mostly they do.
+// The first order of a block that no walk gives. With a bound above two it first tries whether
+// walks of at most one token give them all: mostly they do.
 fn unmet_of(
     alloc: Global,
     search: &WalkSearch<'_>,

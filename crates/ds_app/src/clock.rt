@@ -10,7 +10,7 @@ ghost use Rattle.ds_app.specs.JobStages.{clock_stage};
 
 use crate::run::stop_of;
 use ds_base::{OutOfMemory, Row3};
-use ds_clocked::{ClockedRun, simulate_from};
+use ds_clocked::{ClockedNetlist, simulate_from};
 use ds_cmd::ClockJob;
 use ds_design::Netlist;
 use ds_outside::{Files, Sink};
@@ -61,14 +61,14 @@ fn write_clocked<F: Files, O: Sink>(
     ensures same_writes { UnlessUnwritten result (O.faults out.new ≡ O.faults out.old) }
 {
     let mut state = first_row(alloc, netlist)?;
-    let mut run = ClockedRun::new(netlist);
+    let mut clocked = ClockedNetlist::new(netlist);
     let mut reader = VectorReader::new(netlist.columns().len(), most_vectors(false));
     let mut first = 0;
     let mut more = true;
     'windows: while more {
         let (behind, vectors) = read_window(alloc, files, vec, reader)?;
         let turns = vectors.count();
-        match simulate_from(alloc, &mut run, &state, first, &vectors, out) {
+        match simulate_from(alloc, &mut clocked, &state, first, &vectors, out) {
             Ok(row) => state = row,
             Err(fault) => return Err(stop_of(fault)),
         }

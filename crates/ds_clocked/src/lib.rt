@@ -4,21 +4,20 @@
 //! outputs and the registers is written, and each register takes the value of its data net.
 //!
 //! Where no register feeds back and no value of a window is unknown, 64 turns are worked out at
-//! once, in words. A run looks for feedback once, in the first window of 1,024 turns or more that
+//! once, in words. Feedback is looked for once, in the first window of 1,024 turns or more that
 //! begins with known values.
 //!
 //! `simulate_from` writes the lines of a window, from any row and turn number on, and gives the row
-//! after it. A `ClockedRun` has the netlist, and keeps the words from window to window. The call
-//! answers `Write` only where the sink's faults rose, and then a first part of the lines was
-//! appended; on `Memory` nothing was. `laws` has what a reader of traces may rely on where some
-//! values are unknown: known ones in their place change no other character. When memory is found is
-//! not promised.
+//! after it. A `ClockedNetlist` keeps the words from window to window. The call answers `Write` only
+//! where the sink's faults rose, and then a first part of the lines was appended; on `Memory`
+//! nothing was. `laws` has what a reader of traces may rely on where some values are unknown: known
+//! ones in their place change no other character. When memory is found is not promised.
 #![tactic(auto)]
 
-mod clocked_run;
+mod clocked_netlist;
 pub mod laws;
 mod run;
 mod words;
 
-pub use clocked_run::ClockedRun;
+pub use clocked_netlist::ClockedNetlist;
 pub use run::{SimFault, simulate_from};

@@ -6,7 +6,7 @@ ghost use Rattle.ds_outside.specs.Fault.{Rose};
 ghost use Rattle.ds_design.specs.Circuit.{columns};
 ghost use Rattle.ds_clocked.specs.Appends.{AppendsLines, AppendsLinesPart, PutsLines, WritesLines};
 
-use crate::clocked_run::ClockedRun;
+use crate::clocked_netlist::ClockedNetlist;
 use crate::words::{words_for, write_words};
 use ds_base::{NetId, OutOfMemory, Row3};
 use ds_design::{Netlist, Register, Vectors};
@@ -24,26 +24,26 @@ pub enum SimFault {
 
 /// Writes the lines of a window of a run, numbered from `first` on and with `start` as the
 /// registers before it, without the line `end`. Gives the registers after its last turn, one value
-/// per register. The run has the netlist, and keeps what later windows need not make again.
+/// per register. `clocked` has the netlist, and keeps what later windows need not make again.
 pub fn simulate_from<O: Sink>(
     alloc: Global,
-    run: &mut ClockedRun<'_>,
+    clocked: &mut ClockedNetlist<'_>,
     start: &Row3,
     first: u64,
     vectors: &Vectors,
     out: &mut O,
 ) -> Result<Row3, SimFault>
-    requires width { vectors.now.width ≡ length (columns run.old) }
-    requires start { length start.now ≡ length run.old.registers }
+    requires width { vectors.now.width ≡ length (columns clocked.old) }
+    requires start { length start.now ≡ length clocked.old.registers }
     requires few { first + length vectors.now.rows < 2 ^ 64 }
 
-    ensures ok { IfOk result (AppendsLines run.old first start.now vectors.now.rows
+    ensures ok { IfOk result (AppendsLines clocked.old first start.now vectors.now.rows
         (O.written out.old) (O.written out.new)) }
-    ensures same_circuit { run.new ≡ run.old }
+    ensures same_circuit { clocked.new ≡ clocked.old }
 
     // After a fault.
     ensures part { result ≡ Err SimFault.Write
-        → AppendsLinesPart run.old first start.now vectors.now.rows
+        → AppendsLinesPart clocked.old first start.now vectors.now.rows
         (O.written out.old) (O.written out.new) }
     ensures same { result ≡ Err SimFault.Memory → O.written out.new ≡ O.written out.old }
 
@@ -52,13 +52,13 @@ pub fn simulate_from<O: Sink>(
     ensures never_falls { O.faults out.old ≤ O.faults out.new }
     ensures cause { result ≡ Err SimFault.Write → Rose (O.faults out.old) (O.faults out.new) }
 {
-    let Ok(words) = words_for(alloc, run, start, vectors) else {
+    let Ok(words) = words_for(alloc, clocked, start, vectors) else {
         return Err(SimFault::Memory);
     };
-    let netlist = run.netlist;
+    let netlist = clocked.netlist;
     if let Some(mut words) = words {
         let written = write_words(netlist, first, vectors, &mut words, out);
-        run.slices = Some(words.slices);
+        clocked.slices = Some(words.slices);
         return match written {
             Ok(()) => Ok(words.state),
             Err(_) => Err(SimFault::Write),

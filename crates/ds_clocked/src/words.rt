@@ -10,18 +10,18 @@ ghost use Rattle.ds_clocked.specs.Words.{IsKnownWindow, PutsTurns};
 ghost use Rattle.ds_slices.specs.Ready.{AreReady};
 ghost use Rattle.ds_slices.specs.Turns.{turn_row};
 
-use crate::clocked_run::ClockedRun;
+use crate::clocked_netlist::ClockedNetlist;
 use ds_base::{OutOfMemory, Row3};
 use ds_design::{Netlist, Vectors};
 use ds_outside::{Buffered, Pen, Sink, WriteFault};
 use ds_slices::{Slices, begin_turn, put_turn_line, set_state, set_words};
 use std::alloc::Global;
 
-// The least turns of the window in which a run looks for feedback: a look takes as long as some
+// The least turns of the window in which feedback is looked for: a look takes as long as some
 // hundred turns.
 const LEAST: usize = 1_024;
 
-// So many vectors are looked at before feedback is looked for, and the others behind that.
+// How many vectors are looked at before feedback; the others are looked at after it.
 const FIRST: usize = 16;
 
 /// The registers before a turn, and what the words of 64 turns are worked out in.
@@ -32,28 +32,28 @@ pub struct Sliced {
 }
 
 // Room for a window that begins with these registers, if it is long enough, no register feeds back
-// and no value is unknown. The room is taken out of the run and is given back after the window.
+// and no value is unknown. It is taken out of what is kept, and given back after the window.
 pub(crate) fn words_for(
     alloc: Global,
-    run: &mut ClockedRun<'_>,
+    clocked: &mut ClockedNetlist<'_>,
     start: &Row3,
     vectors: &Vectors,
 ) -> Result<Option<Sliced>, OutOfMemory>
-    requires start { length start.now ≡ length run.old.registers }
+    requires start { length start.now ≡ length clocked.old.registers }
     ensures begun { IfOk result (λ found. IfSome found
-        (IsKnownWindow run.old start.now vectors.now.rows)) }
-    ensures same { run.new ≡ run.old }
+        (IsKnownWindow clocked.old start.now vectors.now.rows)) }
+    ensures same { clocked.new ≡ clocked.old }
 {
     let turns = vectors.count();
-    let is_long = run.asked || turns >= LEAST;
+    let is_long = clocked.asked || turns >= LEAST;
     if !is_long || !start.all_known() || !are_known(vectors, turns.min(FIRST)) {
         return Ok(None);
     }
-    run.ask(alloc)?;
-    if run.slices.is_none() || !are_known(vectors, turns) {
+    clocked.ask(alloc)?;
+    if clocked.slices.is_none() || !are_known(vectors, turns) {
         return Ok(None);
     }
-    match run.slices.take() {
+    match clocked.slices.take() {
         Some(slices) => Ok(Some(begun(alloc, start, slices)?)),
         None => Ok(None),
     }

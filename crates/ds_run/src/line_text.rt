@@ -1,4 +1,4 @@
-//! The text of a line, before it is added to the sum.
+//! The text of one or more lines, in memory.
 ghost use Rattle.std.specs.Prelude.{◌≡◌, ◌<◌, [], Some, IfOk};
 ghost use Rattle.ds_run.specs.Refused.{faults_by};
 
@@ -6,7 +6,7 @@ use ds_base::OutOfMemory;
 use ds_outside::{Sink, WriteFault};
 use std::alloc::Global;
 
-// What was written of a line, and where a write failed for want of memory, that it did.
+// What was written of lines, and whether a write failed for want of memory.
 #[derive(Drop)]
 pub(crate) struct LineText {
     bytes: Vec<u8>,

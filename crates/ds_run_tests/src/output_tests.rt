@@ -1,7 +1,7 @@
 //! What is left on an output where a write fails, and the lines of a window of vectors.
 use ds_app::desync_main;
 use ds_base::Row3;
-use ds_clocked::{ClockedRun, SimFault, simulate_from};
+use ds_clocked::{ClockedNetlist, SimFault, simulate_from};
 use ds_outside::{MemoryFiles, MemorySink, OpenGate};
 use ds_stage::{Stop, read_netlist, read_rows};
 use ds_trial::{TOGGLE, files};
@@ -36,8 +36,8 @@ fn window(
     let vectors = read_rows(alloc, files, "v", &netlist)?;
     let start = Row3::with_len(alloc, netlist.design().registers().len())?;
     let _turns = vectors.count();
-    let mut run = ClockedRun::new(&netlist);
-    Ok(simulate_from(alloc, &mut run, &start, 8, &vectors, out))
+    let mut clocked = ClockedNetlist::new(&netlist);
+    Ok(simulate_from(alloc, &mut clocked, &start, 8, &vectors, out))
 }
 
 #[test]

@@ -88,7 +88,8 @@ pub record Turning (k : Key) (s : State Slot TurnView) : Type 0 where
   pub slots : length s.homes ≡ nodes_of_key k
   pub bits : (l : ℕ) → l < nodes_of_key k
       → (slice_index s.words l ≡ 0) ⊎ (slice_index s.words l ≡ 1)
-  -- where it is free the slot has the pass; else one turn has the node out, and the slot is empty
+  -- if the node is free, the slot has the pass; else one turn has the node out, and the slot is
+  -- empty
   pub free : (l : ℕ) → l < nodes_of_key k → slice_index s.words l ≡ 0 → (p : Showing)
       × (get_elem? s.homes l ≡ some (some (Some p))) × Alone (fabric k) (run k) l p
       × (seen p.view l ≡ fires l)

@@ -84,7 +84,7 @@ fn gather_all<V: RunValues, C: Compute, G: Gate>(
     ensures all { HasBetween pass.new.view 0 workload.now.run.nodes }
     ensures fired { all_tickets pass.new.view ≡ base 0 passes.items }
 {
-    // A layout has fewer nodes than a `u32` counts.
+    // A run has fewer nodes than a `u32` counts.
     let _nodes = workload.run.nodes();
     'taking: while let Some(one) = passes.pop() {
         // A pass has as many tickets of its node as the node has fired.

@@ -61,7 +61,7 @@ fn is_unfired<V: RunValues>(run: &TableRun<V>, pass: &Pass) -> bool
     true
 }
 
-// Fires each event once, after so many turns. False: the caller has nothing left.
+// Fires each event once, in the turn after `turn` turns. False: the caller has nothing left.
 fn fire_turn<V: RunValues, C: Compute, G: Gate>(
     workload: &Workload<'_, '_, V, C, G>,
     pass: &mut Pass,
@@ -89,7 +89,7 @@ fn fire_turn<V: RunValues, C: Compute, G: Gate>(
     true
 }
 
-// Fires an event that is due, in the turn after so many.
+// Fires an event that is due, in the turn after `turn` turns.
 fn fire_event<V: RunValues, C: Compute, G: Gate>(
     workload: &Workload<'_, '_, V, C, G>,
     pass: &mut Pass,

@@ -110,7 +110,7 @@ fn work_at<V: RunValues, C: Compute, G: Gate>(
 ) -> u64
     requires near { node < workload.now.run.nodes }
 {
-    // A layout has fewer nodes than a `u32` counts.
+    // A run has fewer nodes than a `u32` counts.
     let _nodes = workload.run.nodes();
     FIRINGS.saturating_add(workload.fabric.cost(LatchId::new(node as u32)))
 }

@@ -7,7 +7,7 @@ use ds_base::OutOfMemory;
 use ds_fabric::Pass;
 use std::alloc::Global;
 
-/// So many words, all free, and room for as many slots.
+/// A word for each node, all 0 (free), and room for as many slots.
 pub fn rooms(alloc: Global, count: usize) -> Result<(Vec<u64>, Vec<Option<Pass>>), OutOfMemory>
     ensures words { IfOk result (λ r. r.0.items ≡ replicate count 0) }
     ensures slots { IfOk result (λ r. (r.1.items ≡ []) × (count ≤ vec_capacity r.1)) }

@@ -138,8 +138,8 @@ impl Turnstile {
         seat_steps::give(&self.table.shared, &mut turn.seat, node.index(), pass);
     }
 
-    /// A plain look shows the pass of the node free. A hint: it tells nothing, as it may be out
-    /// since.
+    /// A plain look shows that the pass of the node is free. A hint: it tells nothing, as the pass
+    /// may be out since.
     pub fn seems_free(&self, node: LatchId) -> bool
         requires near { node < length self.now.given }
     {

@@ -34,7 +34,7 @@ pub fn visit<V: RunValues, C: Compute, G: Gate>(
     ensures made { worker.new.turn.view.made ≡ worker.old.turn.view.made + fired_count result }
     ensures most { fired_count result ≤ most }
 {
-    // A layout has fewer nodes than a `u32` counts.
+    // A run has fewer nodes than a `u32` counts.
     let _nodes = workload.run.nodes();
     let latch = LatchId::new(node as u32);
     let Some(mut pass) = scheduler.stile.take(&mut worker.turn, latch) else {

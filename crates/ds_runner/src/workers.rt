@@ -185,13 +185,12 @@ fn drive_all<R: Threads + Sync, V: RunValues + Sync, C: Compute + Sync, G: Gate>
     );
 }
 
-// Twice the nodes times the vectors are at least the firings of the whole run, and as many takes
-// may each worker have. The looks are shared among the workers: all of
-// them together take some twice as long as all firings that there may be, which goes with the work
-// of the nodes: two looks take as long as three tables. So a worker looks on until a run is done in
-// which each is at work for a third of the time, longer where cones overlap; where workers wait for
-// processors, what they lose does not grow with their number; and who waits for one that has ended
-// at its quota ends soon.
+// Twice the nodes times the vectors are at least the firings of the whole run, and each worker may
+// have as many takes. The looks are shared among the workers: all of them together take some twice
+// as long as the most firings, which goes with the work of the nodes: two looks take as long as
+// three tables. So a worker looks on until a run is done in which each is at work for a third of
+// the time, longer if cones overlap. If workers wait for processors, what they lose does not grow
+// with their number. A worker that waits for one that has ended at its quota ends soon.
 fn budget<V: RunValues, C: Compute, G: Gate>(
     workload: &Workload<'_, '_, V, C, G>,
     jobs: u32,

@@ -16,8 +16,7 @@
 //! the delays of a graph's arcs (`specs/PeriodStage`), `read_bare_graph` a graph that stands alone
 //! (`specs/RateStage`), and `own_graph` makes the graph of the required orders, `wanted_graph` that
 //! which is written (`specs/GraphStage`). `put_time` writes a line of a timed run
-//! (`specs/TimesStage`).
-//! `write_report` writes the report on a netlist (`specs/Report`).
+//! (`specs/TimesStage`), `write_report` the report on a netlist (`specs/Report`).
 //!
 //! The lines that name faults of files, and the texts that stand in them. A line has the file, the
 //! number of the line where there is one, and the text of the fault; `file_line`, `numbered_line`

@@ -26,7 +26,7 @@ placed_of first words behind =
     then record { line = record { number = first; words = words }; behind = behind } ∷ []
     else []
 
--- The lines of a rest of a text from a place on, so many physical lines being before it, where the
+-- The lines of a rest of a text from a place on, behind so many physical lines, where the
 -- current line began at `first` and has these words so far, and its last physical line these bytes.
 -- A physical line ends behind its newline, the last one at the end of the text.
 abbrev pub placed_in : ℕ → List (List ℕ) → List ℕ → ℕ → ℕ → List ℕ → List Placed

@@ -60,7 +60,7 @@ impl Filling {
         }
     }
 
-    // A plain line begins these bytes, where no line has begun and one vector more may be.
+    // A plain line begins these bytes, no line has begun, and one more vector is allowed.
     fn is_plain(&self, bytes: &[u8]) -> bool
         ensures { result ≡ true → IsPlainLine self.now bytes.now }
     {

@@ -37,7 +37,7 @@ impl Filling {
         self.keep(b' ')
     }
 
-    /// A byte is kept of the current line, where it means something.
+    /// Keeps a byte of the current line if it matters.
     pub(crate) fn keep(&mut self, byte: u8) -> Result<(), NextFault>
         requires plain { list_any is_hash (self.old.line ++ byte ∷ []) ≡ false }
         ensures ok { OnOk result (IsLike self.old.width [] self.new.line
@@ -57,7 +57,7 @@ impl Filling {
         }
     }
 
-    // A byte behind a full line is told.
+    // Notes a byte behind a full line.
     fn tell(&mut self, byte: u8)
         requires plain { list_any is_hash (self.old.line ++ byte ∷ []) ≡ false }
         requires full { IsFull self.old.width self.old.line }
@@ -115,7 +115,7 @@ impl Filling {
         Ok(Some(row))
     }
 
-    /// A row is given, of the line that ends here.
+    /// Gives the row of the line that ends here.
     pub(crate) fn give(&mut self, row: Row3) -> Result<(), NextFault>
         requires some { 0 < self.old.missing }
         requires few { self.old.seen < self.old.most }

@@ -17,7 +17,7 @@ pub(crate) const LONGEST: u64 = 281_474_976_710_656;
 /// stands behind a full line is told by its last byte alone, which no longer ends it, and by
 /// `joined`, which is a `\` behind all of them. A blank stands where physical lines are joined.
 ///
-/// `seen` vectors were given so far, and `missing` are wanted still. `place` and `lines` are those
+/// `seen` vectors were given so far, and `missing` are still wanted. `place` and `lines` are those
 /// of the next byte, `behind_place` and `behind_lines` those behind the last line that gave a row,
 /// where a reader stands; `first` is the number of the current line. `comment` says that a `#`
 /// stands in the current physical line.
@@ -100,7 +100,7 @@ impl Filling {
         }
     }
 
-    /// How many vectors are wanted still.
+    /// How many vectors are still wanted.
     pub(crate) fn missing(&self) -> usize
         ensures { result ≡ self.now.missing }
     {

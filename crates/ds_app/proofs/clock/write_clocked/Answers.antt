@@ -27,7 +27,7 @@ windows-init g c =
       never_falls = λ w n. omega arith;
       never_fell = omega arith;
       few = omega arith;
-      circuit = c.new-run.ensures;
+      circuit = c.new-clocked.ensures;
       so_far = none_so_far (g.F.Files.held c.args.files.now) c.args.vec.now c.args.netlist.now 4294967295 c.new-reader.result c.in_ok-state.state (g.O.Sink.written c.args.out.now)
           (record { width = ap (λ (s : Shown). s.width) is ∙ ap length c.columns.ensures; most_is = ap (λ (s : Shown). s.most) is ∙ c.most_vectors.ensures })
           (ap (λ (s : Shown). s.given) is) (c.new-reader.ensures.fits (g.F.Files.held c.args.files.now c.args.vec.now)) c.in_ok-state.ensures.row;
@@ -62,12 +62,12 @@ returns-in_err-behind g c =
 
 pub simulate_from-requires-clause-width : goal.simulate_from-requires-clause-width
 simulate_from-requires-clause-width g c =
-    let is : c.windows.run ≡ c.args.netlist.now = c.windows.invariant.circuit in
+    let is : c.windows.clocked ≡ c.args.netlist.now = c.windows.invariant.circuit in
     c.in_ok-behind.ensures.width ∙ ap (λ (k : Circuit). length (columns k)) (sym is)
 
 pub simulate_from-requires-clause-start : goal.simulate_from-requires-clause-start
 simulate_from-requires-clause-start g c =
-    let is : c.windows.run ≡ c.args.netlist.now = c.windows.invariant.circuit in
+    let is : c.windows.clocked ≡ c.args.netlist.now = c.windows.invariant.circuit in
     registers_long c.windows.invariant.so_far ∙ ap (λ (k : Circuit). length k.registers) (sym is)
 
 pub returns-in-Err : goal.returns-in-Err

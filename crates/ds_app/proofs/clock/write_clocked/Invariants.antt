@@ -10,7 +10,7 @@ invariant-windows g l = record {
   never_falls : (w : Which) (n : List ℕ) → g.F.Files.faults l.initial.files w n ≤ g.F.Files.faults l.files w n;
   never_fell : g.O.Sink.faults l.initial.out ≤ g.O.Sink.faults l.out;
   few : l.first ≤ 4294967295;
-  circuit : l.run ≡ l.netlist;
+  circuit : l.clocked ≡ l.netlist;
   so_far : IsSoFar (g.F.Files.held l.initial.files) (g.F.Files.held l.files) l.vec l.netlist 4294967295 l.reader l.first l.more l.state (g.O.Sink.written l.initial.out) (g.O.Sink.written l.out);
 }
 

@@ -7,17 +7,17 @@ use ds_slices::Slices;
 use std::alloc::Global;
 use std::marker::Model;
 
-/// A netlist that is clocked window by window. A run looks for feedback once, in the first window
-/// that is long enough; if no register feeds back, it keeps the room for words. A caller sees the
-/// circuit of the netlist.
+/// A netlist that is clocked window by window. Feedback is looked for once, in the first window of
+/// 1,024 turns or more that begins with known values. If no register feeds back, the room for words
+/// is kept. A caller sees the circuit of the netlist.
 #[derive(Drop)]
-pub struct ClockedRun<'n> {
+pub struct ClockedNetlist<'n> {
     pub(crate) netlist: &'n Netlist,
     pub(crate) asked: bool,
     pub(crate) slices: Option<Slices>,
 }
 
-impl<'n> Model for ClockedRun<'n> {
+impl<'n> Model for ClockedNetlist<'n> {
     ghost use Rattle.std.specs.Prelude.{IfSome};
     ghost use Rattle.ds_design.specs.Circuit.{Circuit};
     ghost use Rattle.ds_slices.specs.Ready.{AreReady};
@@ -29,12 +29,12 @@ impl<'n> Model for ClockedRun<'n> {
     ghost invariant = { λ r. IfSome r.slices (AreReady r.netlist.now) };
 }
 
-impl<'n> ClockedRun<'n> {
+impl<'n> ClockedNetlist<'n> {
     /// Begins with nothing kept.
-    pub fn new(netlist: &'n Netlist) -> ClockedRun<'n>
+    pub fn new(netlist: &'n Netlist) -> ClockedNetlist<'n>
         ensures { result ≡ netlist.now }
     {
-        ClockedRun {
+        ClockedNetlist {
             netlist,
             asked: false,
             slices: None,
