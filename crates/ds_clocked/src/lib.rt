@@ -8,8 +8,8 @@
 //! begins with known values.
 //!
 //! `simulate_from` writes the lines of a window, from any row and turn number on, and gives the row
-//! after it. A `ClockedNetlist` keeps the words from window to window. The call answers `Write` only
-//! where the sink's faults rose, and then a first part of the lines was appended; on `Memory`
+//! after it. A `ClockedNetlist` keeps the words from window to window. The call answers `Write`
+//! only where the sink's faults rose, and then a first part of the lines was appended; on `Memory`
 //! nothing was. `laws` has what a reader of traces may rely on where some values are unknown: known
 //! ones in their place change no other character. When memory is found is not promised.
 #![tactic(auto)]
