@@ -1,4 +1,4 @@
-//! Steps in a scratch that the caller has, which is one for all passes that a worker steps.
+//! Steps in a scratch that is handed in: one for all passes that a worker steps.
 ghost use Rattle.std.specs.Prelude.{ℕ, ◌≡◌, true, IfOk, length, vec_capacity};
 ghost use Rattle.ds_base.specs.Scratch.{Remembers};
 ghost use Rattle.ds_rule.specs.Rule.{holds};
@@ -26,7 +26,7 @@ impl<'a, V: RunValues, C: Compute> Fabric<'a, V, C> {
         self.openings.scratch(alloc)
     }
 
-    /// As `step`, in a scratch that the caller has: the pass may be a bare one.
+    /// As `step`, in a scratch that is handed in: the pass may be a bare one.
     pub fn step_in(&self, pass: &mut Pass, node: LatchId, scratch: &mut Scratch) -> Step
         requires fits { IsOf self.now pass.old }
         requires held { holds pass.old.view node ≡ true }

@@ -17,7 +17,7 @@ with_line self words = record {
   number = self.number + 1;
 }
 
--- a draft whose open line is closed
+-- a draft whose current line has ended
 abbrev pub closed : Read → Read
 closed self = record {
   lines = self.lines ++ line_of self.first self.words;

@@ -11,7 +11,7 @@ use crate::span::Span;
 use std::alloc::{AllocError, Global};
 use std::marker::Model;
 
-/// The lines so far, and the line that is open. A draft that is refused is given up.
+/// The lines so far, and the current line. A draft that is refused is given up.
 #[derive(Drop)]
 pub struct Draft<'a> {
     spans: Vec<Span>,
@@ -69,7 +69,7 @@ impl<'a> Draft<'a> {
     {
         let (place, joined) = self.take_words(text)?;
         if !joined {
-            self.close()?;
+            self.end_line()?;
         }
         Ok(behind(text, place))
     }
@@ -91,8 +91,8 @@ impl<'a> Draft<'a> {
         Ok((place, joined))
     }
 
-    /// Closes the line that is open.
-    pub fn close(&mut self) -> Result<(), AllocError>
+    /// Ends the current line.
+    pub fn end_line(&mut self) -> Result<(), AllocError>
         ensures { IfOk result (λ _. self.new ≡ record {
           lines = self.old.lines
               ++ line_of self.old.first self.old.words;
@@ -115,7 +115,7 @@ impl<'a> Draft<'a> {
         Ok(())
     }
 
-    /// The lines, where none is open.
+    /// The lines, if the current one has ended.
     pub fn into_lines(self) -> Lines<'a>
         ensures { result ≡ self.entry.lines }
     {

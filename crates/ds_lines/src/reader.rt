@@ -44,6 +44,6 @@ pub fn lines(alloc: Global, text: &[u8]) -> Result<Lines<'_>, LinesFault>
     'reading: while let Some(line) = rest {
         rest = draft.take(line)?;
     }
-    draft.close()?;
+    draft.end_line()?;
     Ok(draft.into_lines())
 }

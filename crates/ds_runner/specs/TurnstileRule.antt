@@ -103,7 +103,7 @@ pub record Turning (k : Key) (s : State Slot TurnView) : Type 0 where
   pub long : (id : ℕ) (v : TurnView) → get_elem? s.views id ≡ some v → v.live ≡ true
       → (length v.out ≡ nodes_of_key k) × (length v.taken ≡ nodes_of_key k) × (0 < v.permits)
       × (v.fabric ≡ fabric k) × (v.run ≡ run k) × (v.turns ≡ k.turns)
-  -- all permits together are the turns, and what was made is what the firings grew by
+  -- all permits together are as many as the turns, and what was made is what the firings grew by
   pub few : k.turns < 4294967296
   pub spent_made : (id : ℕ) (v : TurnView) → get_elem? s.views id ≡ some v → v.live ≡ false
       → v.made ≡ 0
