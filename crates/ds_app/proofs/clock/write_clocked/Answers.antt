@@ -63,7 +63,8 @@ returns-in_err-behind g c =
 pub simulate_from-requires-clause-width : goal.simulate_from-requires-clause-width
 simulate_from-requires-clause-width g c =
     let is : c.windows.clocked ≡ c.args.netlist.now = c.windows.invariant.circuit in
-    c.in_ok-behind.ensures.width ∙ ap (λ (k : Circuit). length (columns k)) (sym is)
+    c.in_ok-behind.ensures.width
+    ∙ (c.windows.invariant.so_far.of.width ∙ ap (λ (k : Circuit). length (columns k)) (sym is))
 
 pub simulate_from-requires-clause-start : goal.simulate_from-requires-clause-start
 simulate_from-requires-clause-start g c =
