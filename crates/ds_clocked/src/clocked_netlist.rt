@@ -2,10 +2,14 @@
 ghost use Rattle.std.specs.Prelude.{◌≡◌};
 
 use ds_base::OutOfMemory;
-use ds_design::Netlist;
+use ds_design::{Gate, Netlist};
 use ds_slices::Slices;
 use std::alloc::Global;
 use std::marker::Model;
+
+// The most inputs of a table that is worked out of words. A larger one goes turn by turn, and takes
+// longer so than without words.
+const MOST_INPUTS: usize = 6;
 
 /// A netlist that is clocked window by window. Feedback is looked for once, in the first window of
 /// 1,024 turns or more that begins with known values. If no register feeds back, the room for words
@@ -41,14 +45,26 @@ impl<'n> ClockedNetlist<'n> {
         }
     }
 
-    // Looks for feedback if nobody has, and makes the room for words if there is none.
+    // Looks for feedback if nobody has, and makes the room for words if there is none and most
+    // tables are small.
     pub(crate) fn ask(&mut self, alloc: Global) -> Result<(), OutOfMemory>
         ensures { self.new ≡ self.old }
     {
         if !self.asked {
-            self.slices = Slices::of(alloc, self.netlist)?;
+            if are_small(self.netlist.design().tables()) {
+                self.slices = Slices::of(alloc, self.netlist)?;
+            }
             self.asked = true;
         }
         Ok(())
     }
+}
+
+// At most one table in sixteen has more inputs than are worked out in words.
+fn are_small(tables: &[Gate]) -> bool {
+    let large = tables
+        .iter()
+        .filter(|gate| gate.table.inputs().len() > MOST_INPUTS)
+        .count();
+    large <= tables.len() / 16
 }

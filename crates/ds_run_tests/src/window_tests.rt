@@ -8,10 +8,12 @@ use std::test::Fail;
 use std::thread::Threads;
 
 // Two registers behind tables of two inputs, and outputs of a table of four, of one of seven and
-// of one without inputs.
+// of one without inputs. With twelve constants beside them few tables are large.
 const PIPELINE: &str = ".model pipeline\n.inputs a b\n.outputs u v w\n.names a b d\n10 1\n01 1\n\
     .latch d p 0\n.names p a e\n10 1\n01 1\n.latch e q 1\n.names a b p q u\n1111 0\n\
-    .names a b a b a q q v\n11-1111 1\n.names w\n1\n.end\n";
+    .names a b a b a q q v\n11-1111 1\n.names w\n1\n\
+    .names k0\n.names k1\n.names k2\n.names k3\n.names k4\n.names k5\n\
+    .names k6\n.names k7\n.names k8\n.names k9\n.names k10\n.names k11\n.end\n";
 
 // The turn whose vector has an unknown value, where one does.
 type Unknown = Option<u64>;
