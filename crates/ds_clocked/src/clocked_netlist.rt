@@ -12,8 +12,8 @@ use std::marker::Model;
 const MOST_INPUTS: usize = 6;
 
 /// A netlist that is clocked window by window. Feedback is looked for once, in the first window of
-/// 1,024 turns or more that begins with known values. If no register feeds back, the room for words
-/// is kept. A caller sees the circuit of the netlist.
+/// 1,024 turns or more without unknown values. If no register feeds back, the room for words is
+/// kept. A caller sees the circuit of the netlist.
 #[derive(Drop)]
 pub struct ClockedNetlist<'n> {
     pub(crate) netlist: &'n Netlist,

@@ -4,8 +4,8 @@
 //! outputs and the registers is written, and each register takes the value of its data net.
 //!
 //! Where no register feeds back and no value of a window is unknown, 64 turns are worked out at
-//! once, in words. Feedback is looked for once, in the first window of 1,024 turns or more that
-//! begins with known values.
+//! once, in words. Feedback is looked for once, in the first such window of 1,024 turns or more.
+//! If more than one table in sixteen has over six inputs, all goes turn by turn.
 //!
 //! `simulate_from` writes the lines of a window, from any row and turn number on, and gives the row
 //! after it. A `ClockedNetlist` keeps the words from window to window. The call answers `Write`

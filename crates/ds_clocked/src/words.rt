@@ -21,9 +21,6 @@ use std::alloc::Global;
 // hundred turns.
 const LEAST: usize = 1_024;
 
-// How many vectors are looked at before feedback; the others are looked at after it.
-const FIRST: usize = 16;
-
 /// The registers before a turn, and what the words of 64 turns are worked out in.
 #[derive(Drop)]
 pub struct Sliced {
@@ -44,15 +41,15 @@ pub(crate) fn words_for(
         (IsKnownWindow clocked.old start.now vectors.now.rows)) }
     ensures same { clocked.new ≡ clocked.old }
 {
-    let turns = vectors.count();
-    let is_long = clocked.asked || turns >= LEAST;
-    if !is_long || !start.all_known() || !are_known(vectors, turns.min(FIRST)) {
+    let may_be = if clocked.asked {
+        clocked.slices.is_some()
+    } else {
+        vectors.count() >= LEAST
+    };
+    if !may_be || !start.all_known() || !are_known(vectors) {
         return Ok(None);
     }
     clocked.ask(alloc)?;
-    if clocked.slices.is_none() || !are_known(vectors, turns) {
-        return Ok(None);
-    }
     match clocked.slices.take() {
         Some(slices) => Ok(Some(begun(alloc, start, slices)?)),
         None => Ok(None),
@@ -69,12 +66,11 @@ fn begun(alloc: Global, start: &Row3, slices: Slices) -> Result<Sliced, OutOfMem
     Ok(Sliced { state, slices })
 }
 
-// Whether none of the first vectors has an unknown value.
-fn are_known(vectors: &Vectors, count: usize) -> bool
-    requires { count ≤ length vectors.now.rows }
-    ensures { IsTrue result → count ≡ length vectors.now.rows → All AreKnown vectors.now.rows }
+// Whether no vector has an unknown value.
+fn are_known(vectors: &Vectors) -> bool
+    ensures { IsTrue result → All AreKnown vectors.now.rows }
 {
-    for k in 0..count {
+    for k in 0..vectors.count() {
         if !vectors.row(k).all_known() {
             return false;
         }
