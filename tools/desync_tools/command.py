@@ -10,7 +10,7 @@ import sys
 from typing import IO, Any, Callable, Iterable, NoReturn, Optional, Sequence
 
 from desync_tools.manual import Manual
-from desync_tools.text import BadText, as_bytes, in_words, told
+from desync_tools.text import BadText, as_bytes, in_words, told, visible
 
 HERE = os.path.dirname(os.path.realpath(__file__))
 INSTALLED = "desync-"
@@ -57,7 +57,7 @@ class Parser(argparse.ArgumentParser):
     """Words of a command line, with refusals of one line."""
 
     def error(self, message: str) -> NoReturn:
-        self.exit(2, "%s: %s\n" % (self.prog, message))
+        self.exit(2, "%s: %s\n" % (self.prog, visible(message)))
 
     def print_help(self, file: Optional[IO[str]] = None) -> None:
         put("utf-8", [self.format_help().rstrip("\n")])

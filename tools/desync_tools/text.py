@@ -64,9 +64,14 @@ def shown(text: str) -> str:
     return text.encode("latin-1").decode("utf-8", "replace")
 
 
+def visible(text: str) -> str:
+    """A text with what cannot be seen written as an escape: a byte order mark is `\\ufeff`."""
+    return "".join(c if c.isprintable() else ascii(c)[1:-1] for c in text)
+
+
 def told(text: str) -> str:
-    """A refusal, with what cannot be seen written as an escape: a byte order mark is `\\ufeff`."""
-    return "".join(c if c.isprintable() else ascii(c)[1:-1] for c in shown(text))
+    """A refusal, whose bytes are kept as latin-1, as it is printed."""
+    return visible(shown(text))
 
 
 def given() -> Text:

@@ -34,8 +34,11 @@ from desync_tools.netlist import read_netlist
 from desync_tools.periods import Period, number_of
 from desync_tools.text import BadText, Text, as_bytes, file_text
 
-CHANGE = re.compile(r"^(\S+) (\S+) ([+-]?[0-9]{1,10})$")
+FAILS = "The graph has no order that --what-if names, or the order would not take 0 to %d" % MOST
+CHANGE = re.compile(r"(\S+) (\S+) ([+-]?[0-9]{1,10})")
 SHOWN = 20
+# An order, and by how much its delay changes.
+Change = tuple[Order, int]
 # A margin, None where no cycle goes through the order.
 Margin = Optional[Fraction]
 
@@ -119,15 +122,20 @@ def by(margin: Margin, is_exact: bool) -> str:
     return "may rise by %s%s" % (number_of(margin), "" if is_exact else " or more")
 
 
-def changed(design: Design, word: str) -> str:
-    """The line that says what the period becomes if an order takes more or less."""
-    found = CHANGE.match(word)
+def change_word(word: str) -> Change:
+    """A change of the command line."""
+    found = CHANGE.fullmatch(as_bytes(word))
     if not found:
-        raise BadText("--what-if: this is no SOURCE TARGET CHANGE: %s" % word)
-    order = (found.group(1), found.group(2))
+        raise argparse.ArgumentTypeError("this is no SOURCE TARGET CHANGE: %s" % word)
+    return (found.group(1), found.group(2)), int(found.group(3))
+
+
+def changed(design: Design, change: Change) -> str:
+    """The line that says what the period becomes if an order takes more or less."""
+    order, more = change
     if order not in {arc[:2] for arc in design.arcs}:
         raise BadText("--what-if: the graph has no order %s to %s" % order)
-    delay = design.delays.get(order, 0) + int(found.group(3))
+    delay = design.delays.get(order, 0) + more
     if not 0 <= delay <= MOST:
         raise BadText("--what-if: %s to %s cannot take %d" % (order + (delay,)))
     lines = lines_of({**design.delays, order: delay})
@@ -143,8 +151,8 @@ def report(design: Design) -> Iterator[str]:
     cycle = cycle_of(period, ways)
     yield from cycle_lines(design, cycle)
     yield from margin_lines(design, ways, cycle)
-    for word in design.asked.what_if:
-        yield changed(design, word)
+    for change in design.asked.what_if:
+        yield changed(design, change)
 
 
 MANUAL = Manual(
@@ -186,7 +194,7 @@ def words(name: str) -> Parser:
     says = "how many margins are shown, %d where it is left out, all with 0" % SHOWN
     taken.add_argument("--most", type=int, metavar="N", default=SHOWN, help=says)
     says = "an order, and by how much its delay changes"
-    more: dict[str, Any] = {"action": "append", "default": [], "type": as_bytes}
+    more: dict[str, Any] = {"action": "append", "default": [], "type": change_word}
     taken.add_argument("--what-if", metavar="'U V CHANGE'", help=says, **more)
     return taken
 
