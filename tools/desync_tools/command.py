@@ -14,6 +14,8 @@ from desync_tools.text import BadText, as_bytes, in_words, told, visible
 
 HERE = os.path.dirname(os.path.realpath(__file__))
 INSTALLED = "desync-"
+# The most digits of a number: a seed may be a long one.
+DIGITS = 100
 MAIN = Callable[[list[str]], int]
 # What a tool has done, by its status; a command may say in FAILS what else gives 1.
 STATUSES = {
@@ -80,6 +82,15 @@ def parser(name: str, description: Optional[str], manual: Manual = Manual()) -> 
     says = "print the version, and end"
     words.add_argument("--version", action=Version, nargs=0, help=says)
     return words
+
+
+def number_word(word: str) -> int:
+    """A whole number of the command line."""
+    if not re.fullmatch("[+-]?[0-9]+", word):
+        raise argparse.ArgumentTypeError("this is no whole number: %s" % word)
+    if len(word) > DIGITS:
+        raise argparse.ArgumentTypeError("this number has more than %d digits: %s" % (DIGITS, word))
+    return int(word)
 
 
 def put(encoding: str, lines: Iterable[str]) -> None:

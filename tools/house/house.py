@@ -15,6 +15,7 @@ ROOT = os.path.dirname(TOOLS)
 sys.path.insert(1, TOOLS)
 
 from desync_tools.command import Parser as Parser  # noqa: E402, F401, for the tools
+from desync_tools.command import number_word as number_word  # noqa: E402, F401, for the tools
 from desync_tools.command import parser as parser  # noqa: E402, F401, for the tools
 from desync_tools.text import in_words  # noqa: E402
 

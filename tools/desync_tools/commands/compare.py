@@ -17,7 +17,7 @@ import argparse
 from itertools import chain, zip_longest
 from typing import Iterator, NamedTuple, Optional
 
-from desync_tools.command import Parser, parser, put
+from desync_tools.command import Parser, number_word, parser, put
 from desync_tools.manual import Example, File, Manual, read
 from desync_tools.netlist import Netlist, printed, read_netlist
 from desync_tools.text import BadText, Text, file_text, given
@@ -226,7 +226,9 @@ def words(name: str) -> Parser:
     taken.add_argument("--net", metavar="NET", help="the netlist of the traces")
     taken.add_argument("--other", metavar="NET", help="the netlist of the second trace")
     taken.add_argument("--x", choices=SIDES, help="whose x stands for any value")
-    taken.add_argument("--least", type=int, metavar="N", default=1, help="the fewest bits (1)")
+    taken.add_argument(
+        "--least", type=number_word, metavar="N", default=1, help="the fewest bits (1)"
+    )
     take_wave(taken)
     says = "the edge of the clock: re, rising (as left out), or fe, falling"
     taken.add_argument("--edge", choices=("re", "fe"), default="re", help=says)

@@ -26,7 +26,7 @@ from desync_tools.clusters import (
     take_groups,
     take_mode,
 )
-from desync_tools.command import Parser, parser, put
+from desync_tools.command import Parser, number_word, parser, put
 from desync_tools.delays import MOST, Order, delays_of, lines_of
 from desync_tools.graphs import Graph
 from desync_tools.manual import GROUPS, NETLIST, Example, File, Manual, read
@@ -192,7 +192,7 @@ def words(name: str) -> Parser:
     says = "how often a producer may run ahead, 0 to 15"
     taken.add_argument("--slack", metavar="S", type=slack_word, help=says)
     says = "how many margins are shown, %d where it is left out, all with 0" % SHOWN
-    taken.add_argument("--most", type=int, metavar="N", default=SHOWN, help=says)
+    taken.add_argument("--most", type=number_word, metavar="N", default=SHOWN, help=says)
     says = "an order, and by how much its delay changes"
     more: dict[str, Any] = {"action": "append", "default": [], "type": change_word}
     taken.add_argument("--what-if", metavar="'U V CHANGE'", help=says, **more)

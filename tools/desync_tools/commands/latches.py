@@ -18,7 +18,7 @@ import re
 from typing import Iterator
 
 from desync_tools.clusters import Cluster, Split, take_groups, take_mode
-from desync_tools.command import Parser, parser, put
+from desync_tools.command import Parser, number_word, parser, put
 from desync_tools.graphs import Graph
 from desync_tools.manual import GROUPS, NETLIST, Example, File, Manual, read
 from desync_tools.netlist import Net, Netlist, Table, printed, read_netlist
@@ -223,7 +223,7 @@ def words(name: str) -> Parser:
     take_mode(taken)
     take_groups(taken)
     says = "the number that the delays come from; 0 where it is left out"
-    taken.add_argument("--seed", type=int, default=0, help=says)
+    taken.add_argument("--seed", type=number_word, default=0, help=says)
     taken.add_argument("--dump", action="store_true", help="write a waveform, latches.vcd, too")
     return taken
 

@@ -17,7 +17,7 @@ import re
 from typing import Any, Iterator
 
 from desync_tools.buses import buses
-from desync_tools.command import Parser, parser, put
+from desync_tools.command import Parser, number_word, parser, put
 from desync_tools.manual import NETLIST, Example, File, Manual
 from desync_tools.netlist import Netlist, printed, read_netlist
 from desync_tools.text import BadText, as_bytes, file_text, shown
@@ -123,8 +123,8 @@ $ tools/vectors examples/counter.blif --turns 4 --seed 7 --p reset=0.03 --set re
 def words(name: str) -> Parser:
     taken = parser(name, __doc__, MANUAL)
     taken.add_argument("netlist", help="the netlist in BLIF")
-    taken.add_argument("--turns", type=int, help="how many vectors, %d at most" % MOST)
-    taken.add_argument("--seed", type=int, help="the number that they come from")
+    taken.add_argument("--turns", type=number_word, help="how many vectors, %d at most" % MOST)
+    taken.add_argument("--seed", type=number_word, help="the number that they come from")
     many: dict[str, Any] = {"action": "append", "default": [], "type": as_bytes}
     taken.add_argument("--p", metavar="NAME=P", help="the share of ones", **many)
     says = "the value in one turn"
