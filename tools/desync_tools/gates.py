@@ -38,11 +38,15 @@ class Gates:
                 raise text.fault("not INPUTS DELAY or NET DELAY", number)
             name, delay = words[0], int(words[1])
             if DIGITS.match(name):
+                if int(name) in self.by_inputs:
+                    raise text.fault("%d inputs twice" % int(name), number)
                 self.by_inputs[int(name)] = delay
                 continue
             name = name[2:] if name.startswith("0/") else name
             if name not in known:
                 raise text.fault("no table drives %s" % name, number)
+            if name in self.by_net:
+                raise text.fault("net %s twice" % name, number)
             self.by_net[name] = delay
 
     def delay(self, table: Table) -> int:

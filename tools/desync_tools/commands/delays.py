@@ -8,7 +8,8 @@ would be longer than the 16 MiB that `desync` reads.
 
 With --gates a file of lines `INPUTS DELAY` or `NET DELAY` says how long tables take: by the number
 of their inputs, or by the net that they drive, which counts first. A word of digits is a number of
-inputs; a net of such a name is given as `0/NAME`. Tables without a line take --table.
+inputs; a net of such a name is given as `0/NAME`. A number or a net that stands twice is refused.
+Tables without a line take --table.
 """
 
 from __future__ import annotations
