@@ -145,7 +145,7 @@ def names_of_order(names: dict[str, str], order: Order) -> str:
 def take_mode(words: argparse.ArgumentParser, default: Optional[str] = "each") -> None:
     """Adds the option that says how registers share latches to the words of a tool."""
     says = "how registers share latches: each%s, one or bus"
-    says %= " (as left out)" if default else ""
+    says %= " (the default)" if default else ""
     words.add_argument("--clusters", choices=MODES, default=default, help=says)
 
 

@@ -80,6 +80,6 @@ def take_delays(words: argparse.ArgumentParser) -> None:
     """Adds the options that say how long things take to the words of a tool."""
     words.add_argument("--gates", metavar="FILE", help="how long tables take")
     for option, default, says in OPTIONS:
-        told = "%s (%d where it is left out)" % (says, default)
+        told = "%s (the default is %d)" % (says, default)
         name, takes = option.upper(), delay_word
         words.add_argument("--" + option, type=takes, metavar=name, default=default, help=told)

@@ -57,7 +57,7 @@ potential S0- 3
 
 def words(name: str) -> Parser:
     taken = parser(name, __doc__, MANUAL)
-    taken.add_argument("graph", nargs="?", help="the text; the standard input where it is left out")
+    taken.add_argument("graph", nargs="?", help="the text (the default is the standard input)")
     return taken
 
 

@@ -226,11 +226,10 @@ def words(name: str) -> Parser:
     taken.add_argument("--net", metavar="NET", help="the netlist of the traces")
     taken.add_argument("--other", metavar="NET", help="the netlist of the second trace")
     taken.add_argument("--x", choices=SIDES, help="whose x stands for any value")
-    taken.add_argument(
-        "--least", type=number_word, metavar="N", default=1, help="the fewest bits (1)"
-    )
+    says = "the fewest bits (the default is 1)"
+    taken.add_argument("--least", type=number_word, metavar="N", default=1, help=says)
     take_wave(taken)
-    says = "the edge of the clock: re, rising (as left out), or fe, falling"
+    says = "the edge of the clock: re, rising (the default), or fe, falling"
     taken.add_argument("--edge", choices=("re", "fe"), default="re", help=says)
     return taken
 

@@ -188,10 +188,11 @@ def words(name: str) -> Parser:
     taken.add_argument("delays", help="the delays of its orders")
     take_mode(taken)
     take_groups(taken)
-    taken.add_argument("--graph", metavar="FILE", help="the graph; the required orders without it")
+    says = "the graph (the default is that of the required orders)"
+    taken.add_argument("--graph", metavar="FILE", help=says)
     says = "how often a producer may run ahead, 0 to 15"
     taken.add_argument("--slack", metavar="S", type=slack_word, help=says)
-    says = "how many margins are shown, %d where it is left out, all with 0" % SHOWN
+    says = "how many margins are shown (the default is %d); 0 shows all" % SHOWN
     taken.add_argument("--most", type=number_word, metavar="N", default=SHOWN, help=says)
     says = "an order, and by how much its delay changes"
     more: dict[str, Any] = {"action": "append", "default": [], "type": change_word}

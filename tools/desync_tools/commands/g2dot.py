@@ -235,7 +235,7 @@ $ dot -Tsvg -o pipeline.svg pipeline.dot
 
 def words(name: str) -> Parser:
     taken = parser(name, __doc__, MANUAL)
-    taken.add_argument("graph", nargs="?", help="the text; the standard input where it is left out")
+    taken.add_argument("graph", nargs="?", help="the text (the default is the standard input)")
     taken.add_argument("--net", metavar="NET", help="the netlist, for the names of registers")
     take_mode(taken)
     take_groups(taken)

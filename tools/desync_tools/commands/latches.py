@@ -222,7 +222,7 @@ def words(name: str) -> Parser:
     taken.add_argument("vectors", help="the vectors")
     take_mode(taken)
     take_groups(taken)
-    says = "the number that the delays come from; 0 where it is left out"
+    says = "the number that the delays come from (the default is 0)"
     taken.add_argument("--seed", type=number_word, default=0, help=says)
     taken.add_argument("--dump", action="store_true", help="write a waveform, latches.vcd, too")
     return taken

@@ -171,11 +171,12 @@ def words(name: str) -> Parser:
     taken.add_argument("delays", nargs="?", help="the delays of its orders")
     says = "a row for registers that share latches by the lines of a file; may stand several times"
     taken.add_argument("--groups", metavar="FILE", action="append", default=[], help=says)
-    says = "how registers that are in no group share latches: each (as left out), one or bus"
+    says = "how registers that are in no group share latches: each (the default), one or bus"
     taken.add_argument("--clusters", choices=MODES, default="each", help=says)
     says = "a column with this slack, 0 to 15; may stand several times"
     taken.add_argument("--slack", metavar="S", type=slack_word, action="append", help=says)
-    taken.add_argument("--as", dest="form", choices=FORMS, default="text", help="the form")
+    says = "the form (the default is text)"
+    taken.add_argument("--as", dest="form", choices=FORMS, default="text", help=says)
     take_delays(taken)
     return taken
 

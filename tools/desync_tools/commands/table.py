@@ -149,7 +149,7 @@ def words(name: str) -> Parser:
     taken.add_argument("--vectors", metavar="FILE", help="the vectors of the run")
     says = "show these buses alone"
     taken.add_argument("--only", metavar="NAME", nargs="+", type=as_bytes, help=says)
-    says = "hexadecimal (as left out), decimal or binary"
+    says = "hexadecimal (the default), decimal or binary"
     taken.add_argument("--radix", choices=("x", "d", "b"), default="x", help=says)
     return taken
 
