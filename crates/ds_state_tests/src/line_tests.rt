@@ -1,4 +1,6 @@
 //! The line of a firing, without and with its time, to a sink.
+ghost use Rattle.std.specs.Prelude.{◌<◌, length};
+
 use ds_base::{EventId, Mode};
 use ds_latch::Plan;
 use ds_outside::{MemorySink, OnSink, Pen};
@@ -16,7 +18,9 @@ struct TimedFiring {
 }
 
 // Writes the line of a firing, and says whether no write failed.
-fn is_written(plan: &Plan<'_>, firing: TimedFiring, sink: &mut MemorySink) -> bool {
+fn is_written(plan: &Plan<'_>, firing: TimedFiring, sink: &mut MemorySink) -> bool
+    requires { firing.event < length plan.now.graph.events }
+{
     let Some(time) = firing.time else {
         return firing_line(plan, firing.event, u64::from(firing.turn), sink).is_ok();
     };
