@@ -24,8 +24,28 @@ from desync_tools.text import BadText, as_bytes, file_text, shown
 from desync_tools.vcd import Wave, take_wave
 
 MOST = 65536
-SHARE = re.compile(r"^(.+)=(\d*\.?\d+)$")
-VALUE = re.compile(r"^(.+)=([01x]+)@(\d{1,9})$")
+SHARE = re.compile(r"(.+)=(\d*\.?\d+)")
+VALUE = re.compile(r"(.+)=([01x]+)@(\d{1,9})")
+# A column, and how often it is 1.
+Share = tuple[str, float]
+# A column, its bits, and the turn in which it has them.
+Value = tuple[str, str, str]
+
+
+def share_word(word: str) -> Share:
+    """A share of ones of the command line."""
+    parts = SHARE.fullmatch(as_bytes(word))
+    if not parts or float(parts.group(2)) > 1:
+        raise argparse.ArgumentTypeError("this is no NAME=P with P from 0 to 1: %s" % word)
+    return parts.group(1), float(parts.group(2))
+
+
+def value_word(word: str) -> Value:
+    """A value of the command line."""
+    parts = VALUE.fullmatch(as_bytes(word))
+    if not parts:
+        raise argparse.ArgumentTypeError("this is no NAME=BITS@TURN: %s" % word)
+    return parts.group(1), parts.group(2), parts.group(3)
 
 
 def places_of(netlist: Netlist, name: str) -> list[int]:
@@ -40,28 +60,22 @@ def places_of(netlist: Netlist, name: str) -> list[int]:
     return places[::-1]
 
 
-def shares(netlist: Netlist, given: list[str]) -> list[float]:
+def shares(netlist: Netlist, given: list[Share]) -> list[float]:
     """How often each column is 1."""
     found = [0.5] * len(netlist.columns)
-    for word in given:
-        parts = SHARE.match(word)
-        if not parts or float(parts.group(2)) > 1:
-            raise BadText("--p: this is no NAME=P with P from 0 to 1: %s" % word)
-        for place in places_of(netlist, parts.group(1)):
-            found[place] = float(parts.group(2))
+    for name, share in given:
+        for place in places_of(netlist, name):
+            found[place] = share
     return found
 
 
-def values(netlist: Netlist, given: list[str], turns: int) -> dict[tuple[int, int], str]:
+def values(netlist: Netlist, given: list[Value], turns: int) -> dict[tuple[int, int], str]:
     """(turn, place) -> the bit that it is to have."""
     found: dict[tuple[int, int], str] = {}
-    for word in given:
-        parts = VALUE.match(word)
-        if not parts:
-            raise BadText("--set: this is no NAME=BITS@TURN: %s" % word)
-        places, bits, turn = places_of(netlist, parts.group(1)), parts.group(2), int(parts.group(3))
+    for name, bits, told in given:
+        places, turn, word = places_of(netlist, name), int(told), "%s=%s@%s" % (name, bits, told)
         if len(bits) != len(places):
-            raise BadText("--set: %s has %d bits: %s" % (parts.group(1), len(places), word))
+            raise BadText("--set: %s has %d bits: %s" % (name, len(places), word))
         if turn >= turns:
             raise BadText("--set: there is no turn %d: %s" % (turn, word))
         found.update(((turn, place), bit) for place, bit in zip(places, bits))
@@ -125,10 +139,11 @@ def words(name: str) -> Parser:
     taken.add_argument("netlist", help="the netlist in BLIF")
     taken.add_argument("--turns", type=number_word, help="how many vectors, %d at most" % MOST)
     taken.add_argument("--seed", type=number_word, help="the number that they come from")
-    many: dict[str, Any] = {"action": "append", "default": [], "type": as_bytes}
-    taken.add_argument("--p", metavar="NAME=P", help="the share of ones", **many)
+    many: dict[str, Any] = {"action": "append", "default": []}
+    says = "the share of ones"
+    taken.add_argument("--p", metavar="NAME=P", type=share_word, help=says, **many)
     says = "the value in one turn"
-    taken.add_argument("--set", metavar="NAME=BITS@TURN", help=says, **many)
+    taken.add_argument("--set", metavar="NAME=BITS@TURN", type=value_word, help=says, **many)
     says = "a recorded test bench, in place of --seed"
     taken.add_argument("--from", dest="wave", metavar="FILE", help=says)
     take_wave(taken)
