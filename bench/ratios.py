@@ -11,11 +11,14 @@ on the machine only adds; the exit status is 1 where the runs of a netlist write
 
 With `--base PROGRAM` it prints whole runs in place of turns: for each circuit the seconds of
 `clock` of that program, which is taken as 1, and how many times as long take `clock` of `--program`
-and its `run` by each number of `--jobs`, one and four where none are named.
+and its `run` by each number of `--jobs`, one and four where none are named. These runs write into
+/dev/null, so that no reader takes part; one run of each more, without a time, shows that all write
+the same bytes.
 """
 
 import argparse
 import os
+import random
 import subprocess
 import sys
 import tempfile
@@ -32,6 +35,13 @@ def seconds_of(words):
     begin = time.monotonic()
     text = subprocess.run(words, stdout=subprocess.PIPE, check=True).stdout
     return text, time.monotonic() - begin
+
+
+def seconds_unread(words):
+    """The seconds by the clock of a command whose bytes nobody reads."""
+    begin = time.monotonic()
+    subprocess.run(words, stdout=subprocess.DEVNULL, check=True)
+    return time.monotonic() - begin
 
 
 def halved(files):
@@ -80,13 +90,29 @@ def netlists(folder, turns):
     yield "1,000 registers, " + EACH, workers.pipeline(small, turns // 20, 25, 40, 10), []
 
 
+def with_unknown(files):
+    """The files with one value of the vectors in a hundred unknown."""
+    draw = random.Random(1)
+    with open(files[1]) as file:
+        text = file.read()
+    unknown = files[1] + ".unknown"
+    with open(unknown, "w") as file:
+        file.write("".join("x" if c in "01" and draw.random() < 0.01 else c for c in text))
+    return [files[0], unknown]
+
+
 def wholes(folder):
     """A name, the files, and the words that say which clusters, for whole runs."""
     bus = ["--clusters", "bus"]
     for name, fewer, told in workers.CIRCUITS:
         turns = 65000 if fewer == 1 else 10000
         told += ", %s vectors" % format(turns, ",")
-        yield name + told, workers.circuit(folder, turns, name), bus
+        files = workers.circuit(folder, turns, name)
+        yield name + told, files, bus
+        yield name + ", one value in a hundred unknown", with_unknown(files), bus
+    for turns in (10000, 65000):
+        told = "20 stages, no feedback, %s vectors" % format(turns, ",")
+        yield told, workers.pipeline(folder, turns, 20, 25, 20), bus
     small = os.path.join(folder, "each")
     os.mkdir(small)
     yield "mul32, %s, 10,000 vectors" % EACH, workers.circuit(small, 10000, "mul32"), []
@@ -101,12 +127,11 @@ def whole_runs(given, folder):
         words = {"base": [os.path.abspath(given.base), "clock"] + files}
         for kind, make in kinds_of(clusters, jobs):
             words[kind] = [os.path.abspath(given.program)] + make(files)
-        times, texts = {kind: [] for kind in words}, set()
+        texts = {seconds_of(words[kind])[0] for kind in words}
+        times = {kind: [] for kind in words}
         for _ in range(given.times):
             for kind in words:
-                text, seconds = seconds_of(words[kind])
-                times[kind].append(seconds)
-                texts.add(text)
+                times[kind].append(seconds_unread(words[kind]))
         one = min(times["base"])
         cells = [name, "%.3f" % one]
         cells += ["%.2f" % (min(times[kind]) / one) for kind in words if kind != "base"]

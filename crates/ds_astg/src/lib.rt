@@ -10,7 +10,7 @@
 //! `ds_astg_laws` says what follows: what is written is read as the same graph, texts that are
 //! worked by hand.
 //!
-//! `write` takes no memory, and hands the text on in pieces of up to 8,192 bytes.
+//! `write` takes no memory, and hands the text on in pieces of up to 65,536 bytes.
 #![tactic(auto)]
 
 mod declaration;

@@ -7,8 +7,8 @@ use ds_slices::Slices;
 use std::alloc::Global;
 use std::marker::Model;
 
-// The most inputs of a table that is worked out of words. A larger one goes turn by turn, and takes
-// longer so than without words.
+// The most inputs of a table that is worked out in words. A larger one is worked out turn by turn,
+// which takes longer among words than without them.
 const MOST_INPUTS: usize = 6;
 
 /// A netlist that is clocked window by window. Feedback is looked for once, in the first window of

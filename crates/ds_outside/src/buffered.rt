@@ -7,7 +7,7 @@ ghost use Rattle.ds_outside.specs.Writes.{Writes};
 use crate::pending_bytes::PendingBytes;
 use crate::{Pen, Sink, WriteFault};
 
-/// A pen that keeps up to 8,192 bytes back before it hands them on to a sink, so that many small
+/// A pen that keeps up to 65,536 bytes back before it hands them on to a sink, so that many small
 /// pieces cost few writes there. What is kept when it is let go is lost: call `finish`.
 #[derive(Drop)]
 pub struct Buffered<'a, O: Sink> {

@@ -12,7 +12,7 @@ use std::marker::Model;
 // Bytes that are still to be handed on: those of the array from `start` up to `end`.
 #[derive(Drop)]
 pub(crate) struct PendingBytes {
-    bytes: [u8; 8192],
+    bytes: [u8; 65536],
     start: usize,
     end: usize,
 }
@@ -24,7 +24,7 @@ impl Model for PendingBytes {
 
     ghost view = { λ k. drop k.start (take k.end k.bytes) };
 
-    ghost invariant = { λ k. (k.start ≤ k.end) × (k.end ≤ 8192) × (k.end ≤ k.start → k.end ≡ 0) };
+    ghost invariant = { λ k. (k.start ≤ k.end) × (k.end ≤ 65536) × (k.end ≤ k.start → k.end ≡ 0) };
 }
 
 impl PendingBytes {
@@ -33,7 +33,7 @@ impl PendingBytes {
         ensures { result ≡ [] }
     {
         PendingBytes {
-            bytes: [0; 8192],
+            bytes: [0; 65536],
             start: 0,
             end: 0,
         }
@@ -45,7 +45,7 @@ impl PendingBytes {
         ensures some { self.old ≡ [] → 0 < length piece.now → 0 < result }
         ensures kept { self.new ≡ self.old ++ take result piece.now }
     {
-        let n = piece.len().min(8192 - self.end);
+        let n = piece.len().min(65536 - self.end);
         put_at(&mut self.bytes, self.end, &piece[..n]);
         self.end += n;
         n

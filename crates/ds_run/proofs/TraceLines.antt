@@ -4,7 +4,7 @@ use Rattle.std.proofs.lemmas.List.{append_assoc, append-nil}
 use Rattle.ds_outside.specs.Pen.{Puts, Writing}
 use Rattle.ds_outside.specs.Written.{appended}
 use Rattle.ds_outside.proofs.Pens.{with_put}
-use Rattle.ds_run.specs.declared.line_text.LineText.{LineText}
+use Rattle.ds_run.specs.declared.lines_text.LinesText.{LinesText}
 use Rattle.ds_base.specs.Values.{Row}
 use Rattle.ds_latch.specs.Node.{Split}
 use Rattle.ds_latch.specs.Plan.{Planned}
@@ -124,8 +124,8 @@ pub text_held : (bytes text : List ℕ) (held : Option (List ℕ)) → held ≡ 
 text_held bytes text held none is = cc
 
 -- a pen went over the text of some turns
-pub put_text : (p : Planned) (r : Recorder) (turns first from to : ℕ) (given : Option LineText)
-    (text : LineText) (bytes : List ℕ) (old new : Writing) → given ≡ Some text
+pub put_text : (p : Planned) (r : Recorder) (turns first from to : ℕ) (given : Option LinesText)
+    (text : LinesText) (bytes : List ℕ) (old new : Writing) → given ≡ Some text
     → Some text.bytes.items ≡ Some bytes → Puts old new bytes
     → IfSome given (λ t. AreLinesOf p r turns first from to (λ lines. t.bytes.items ≡ lines))
     → AreLinesOf p r turns first from to (Puts old new)
@@ -133,5 +133,5 @@ put_text p r turns first from to given text bytes old new is held puts has =
     let same : bytes ≡ text.bytes.items = cc in
     lines_as p r turns first from to (λ (lines : List ℕ). text.bytes.items ≡ lines) (Puts old new)
     (λ lines spelt. with_put (same ∙ spelt) puts)
-    (subst (λ (o : Option LineText). IfSome o (λ t. AreLinesOf p r turns first from to
+    (subst (λ (o : Option LinesText). IfSome o (λ t. AreLinesOf p r turns first from to
     (λ lines. t.bytes.items ≡ lines))) is has)

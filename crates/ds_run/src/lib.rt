@@ -33,7 +33,7 @@ pub mod laws;
 mod left;
 mod lengths;
 mod line_sharing;
-mod line_text;
+mod lines_text;
 mod log;
 mod openings;
 mod run_plan;

@@ -8,7 +8,7 @@ ghost use Rattle.ds_run.specs.TraceRows.{HasLine};
 ghost use Rattle.ds_run.specs.Finished.{IsFinishedOn};
 ghost use Rattle.ds_run.specs.Summed.{IsSummed, IsSummedTo, ones_of};
 
-use crate::line_text::LineText;
+use crate::lines_text::LinesText;
 use crate::stored_turns::StoredTurns;
 use crate::trace_rows::{TraceRows, copy_stored};
 use crate::{WorkerSettings, run};
@@ -107,7 +107,7 @@ fn add_line(alloc: Global, turn: u64, line: &TraceRows, fold: &mut Fold) -> Resu
         (fold.new ≡ fold_after fold.old (trace_text turn line.now.outputs line.now.registers)) }
 {
     let room = room_for(line.outputs.len()).saturating_add(room_for(line.registers.len()));
-    let mut text = LineText::with_room(alloc, room)?;
+    let mut text = LinesText::with_room(alloc, room)?;
     match trace_line(turn, &line.outputs, &line.registers, &mut text) {
         Ok(()) => {
             fold.add(text.bytes());
@@ -121,7 +121,7 @@ fn add_line(alloc: Global, turn: u64, line: &TraceRows, fold: &mut Fold) -> Resu
 fn add_end(alloc: Global, registers: &Row3, fold: &mut Fold) -> Result<(), OutOfMemory>
     ensures { OnOk result (fold.new ≡ fold_after fold.old (end_text registers.now)) }
 {
-    let mut text = LineText::with_room(alloc, room_for(registers.len()))?;
+    let mut text = LinesText::with_room(alloc, room_for(registers.len()))?;
     match end_line(registers, &mut text) {
         Ok(()) => {
             fold.add(text.bytes());

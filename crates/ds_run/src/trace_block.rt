@@ -6,7 +6,7 @@ ghost use Rattle.ds_run.specs.TraceLines.{AreLinesOf, HasLineBefore};
 ghost use Rattle.ds_run.specs.Finished.{IsFinishedOn};
 
 use crate::line_sharing::LineSharing;
-use crate::line_text::LineText;
+use crate::lines_text::LinesText;
 use crate::stored_turns::StoredTurns;
 use crate::trace_part::text_of;
 use crate::trace_range::put_range;
@@ -45,7 +45,7 @@ pub(crate) fn put_block<R: AllocGlobal + Threads + Sync, P: Pen>(
         sharing.threads,
         alloc,
         parts,
-        &|i| -> Option<LineText>
+        &|i| -> Option<LinesText>
             requires few { (i < 64) × (turns ≤ 65536) × (from ≤ last)
                 × (last ≡ stored.now.turns) }
             requires stored { (vectors : List Row)
@@ -98,7 +98,7 @@ fn part(from: usize, i: usize, turns: usize, last: usize) -> TurnRange
 fn put_part<P: Pen>(
     stored: &StoredTurns<'_, '_>,
     range: TurnRange,
-    text: &Option<LineText>,
+    text: &Option<LinesText>,
     line: &mut TraceRows,
     pen: &mut P,
 )

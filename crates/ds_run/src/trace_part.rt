@@ -5,7 +5,7 @@ ghost use Rattle.ds_run.specs.TraceRows.{HasLine};
 ghost use Rattle.ds_run.specs.TraceLines.{AreLinesOf, AreRegistersBefore};
 ghost use Rattle.ds_run.specs.Finished.{IsFinishedOn};
 
-use crate::line_text::LineText;
+use crate::lines_text::LinesText;
 use crate::stored_turns::StoredTurns;
 use crate::trace_range::put_range;
 use crate::trace_rows::{TraceRows, copy_stored};
@@ -20,7 +20,7 @@ pub(crate) fn text_of(
     stored: &StoredTurns<'_, '_>,
     range: TurnRange,
     room: usize,
-) -> Option<LineText>
+) -> Option<LinesText>
     requires stored { (vectors : List Row)
         × IsFinishedOn stored.now.plan.now stored.now.turns stored.now.recorded.now vectors }
     requires few { stored.now.first + stored.now.turns < 2 ^ 64 }
@@ -32,7 +32,7 @@ pub(crate) fn text_of(
     let Ok(mut line) = line_before(alloc, stored, range.from) else {
         return None;
     };
-    let Ok(mut text) = LineText::with_room(alloc, room) else {
+    let Ok(mut text) = LinesText::with_room(alloc, room) else {
         return None;
     };
     let mut pen = OnSink::new(&mut text);

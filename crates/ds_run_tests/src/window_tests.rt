@@ -8,12 +8,14 @@ use std::test::Fail;
 use std::thread::Threads;
 
 // Two registers behind tables of two inputs, and outputs of a table of four, of one of seven and
-// of one without inputs. With twelve constants beside them few tables are large.
+// of one without inputs.
 const PIPELINE: &str = ".model pipeline\n.inputs a b\n.outputs u v w\n.names a b d\n10 1\n01 1\n\
     .latch d p 0\n.names p a e\n10 1\n01 1\n.latch e q 1\n.names a b p q u\n1111 0\n\
-    .names a b a b a q q v\n11-1111 1\n.names w\n1\n\
-    .names k0\n.names k1\n.names k2\n.names k3\n.names k4\n.names k5\n\
-    .names k6\n.names k7\n.names k8\n.names k9\n.names k10\n.names k11\n.end\n";
+    .names a b a b a q q v\n11-1111 1\n.names w\n1\n";
+
+// Tables without inputs. Beside them few tables of the pipeline are large.
+const TWELVE: &str = ".names k0\n.names k1\n.names k2\n.names k3\n.names k4\n.names k5\n\
+    .names k6\n.names k7\n.names k8\n.names k9\n.names k10\n.names k11\n";
 
 // The turn whose vector has an unknown value, where one does.
 type Unknown = Option<u64>;
@@ -119,25 +121,48 @@ fn trace(alloc: Global, turns: u64, unknown: Unknown) -> Result<String, AllocErr
     Ok(text)
 }
 
-// Whether the clocked run prints the trace.
+// The pipeline with these tables beside it.
+fn netlist(alloc: Global, tables: &str) -> Result<String, AllocError> {
+    let mut text = String::from_str(alloc, PIPELINE)?;
+    text.push_str(tables)?;
+    text.push_str(".end\n")?;
+    Ok(text)
+}
+
+// Whether the clocked run prints the trace, with these tables beside the pipeline.
 fn prints<R: AllocGlobal + Threads + Sync>(
     rt: &R,
+    tables: &str,
     turns: u64,
     unknown: Unknown,
 ) -> Result<bool, AllocError> {
+    let netlist = netlist(rt.alloc(), tables)?;
     let vectors = vectors(rt.alloc(), turns, unknown)?;
     let wanted = trace(rt.alloc(), turns, unknown)?;
-    let files = [("n", PIPELINE), ("v", vectors.as_str())];
+    let files = [("n", netlist.as_str()), ("v", vectors.as_str())];
     match printed(rt, &files, "desync clock n v", &OpenGate) {
         Some(text) => Ok(text.as_str() == wanted.as_str()),
         None => Ok(false),
     }
 }
 
-// The same with an unknown value in no turn, in the first one, and in the last one.
+// The same with twelve tables, and an unknown value in no turn, in the first one, and in the last.
 fn prints_all<R: AllocGlobal + Threads + Sync>(rt: &R, turns: u64) -> Result<bool, AllocError> {
-    let last = turns.saturating_sub(1);
-    Ok(prints(rt, turns, None)? && prints(rt, turns, Some(0))? && prints(rt, turns, Some(last))?)
+    for unknown in [None, Some(0), Some(turns.saturating_sub(1))] {
+        if !prints(rt, TWELVE, turns, unknown)? {
+            return Ok(false);
+        }
+    }
+    Ok(true)
+}
+
+// One table in five is large.
+#[test]
+fn windows_with_large_tables_are_written(rt: HostRuntime) -> Result<(), Fail> {
+    for turns in [1_024, 4_097] {
+        assert!(rt; prints(&rt, "", turns, None)?);
+    }
+    Ok(())
 }
 
 #[test]

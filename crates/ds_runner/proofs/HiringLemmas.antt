@@ -212,7 +212,7 @@ is_worker_pool b k ps t count all long some_nodes unfired opened turn hired some
       none = turn.1;
       made = turn.3;
       unfired = ap (base 0) opened.given_is ∙ unfired;
-      permits = omega (arith, turn.2, hired.1, opened.turns_is);
+      permits = omega (arith, turn.2, hired.1, opened.all_permits_is);
       are = all_workers b k.scheduler.stile 0 k.workers.items hired.0;
       some_workers = omega (arith, hired.1, some_count);
       empty = empty;

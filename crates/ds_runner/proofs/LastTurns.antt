@@ -47,10 +47,10 @@ splits k id v live some-permits s o me =
           (at_end vs right u i at);
       long = λ i u at lives. ⊎_elim
           (λ old. ⊎_elim
-          (λ t. (ap (λ (x : TurnView). length x.out) (sym t.1) ∙ long.0, ap (λ (x : TurnView). length x.taken) (sym t.1) ∙ long.1, omega (arith, ap (λ (x : TurnView). x.permits) t.1), ap (λ (x : TurnView). x.fabric) (sym t.1) ∙ long.3, ap (λ (x : TurnView). x.run) (sym t.1) ∙ long.4, ap (λ (x : TurnView). x.turns) (sym t.1) ∙ long.5))
+          (λ t. (ap (λ (x : TurnView). length x.out) (sym t.1) ∙ long.0, ap (λ (x : TurnView). length x.taken) (sym t.1) ∙ long.1, omega (arith, ap (λ (x : TurnView). x.permits) t.1), ap (λ (x : TurnView). x.fabric) (sym t.1) ∙ long.3, ap (λ (x : TurnView). x.run) (sym t.1) ∙ long.4, ap (λ (x : TurnView). x.all_permits) (sym t.1) ∙ long.5))
           (λ t. o.long i u t.1 lives)
           (at_set s.views id i left u old))
-          (λ t. (ap (λ (x : TurnView). length x.out) (sym t.1) ∙ (length-replicate (length v.out) false ∙ long.0), ap (λ (x : TurnView). length x.taken) (sym t.1) ∙ (length-replicate (length v.taken) 0 ∙ long.1), omega (arith, ap (λ (x : TurnView). x.permits) t.1), ap (λ (x : TurnView). x.fabric) (sym t.1) ∙ long.3, ap (λ (x : TurnView). x.run) (sym t.1) ∙ long.4, ap (λ (x : TurnView). x.turns) (sym t.1) ∙ long.5))
+          (λ t. (ap (λ (x : TurnView). length x.out) (sym t.1) ∙ (length-replicate (length v.out) false ∙ long.0), ap (λ (x : TurnView). length x.taken) (sym t.1) ∙ (length-replicate (length v.taken) 0 ∙ long.1), omega (arith, ap (λ (x : TurnView). x.permits) t.1), ap (λ (x : TurnView). x.fabric) (sym t.1) ∙ long.3, ap (λ (x : TurnView). x.run) (sym t.1) ∙ long.4, ap (λ (x : TurnView). x.all_permits) (sym t.1) ∙ long.5))
           (at_end vs right u i at);
       few = o.few;
       spent_made = λ i u at dead. ⊎_elim
@@ -102,7 +102,7 @@ joins k id other v w live live' none-out s o me apart him =
             omega (arith, long.2, ap (λ (y : TurnView). y.permits) r.1),
             ap (λ (y : TurnView). y.fabric) (sym r.1) ∙ long.3,
             ap (λ (y : TurnView). y.run) (sym r.1) ∙ long.4,
-            ap (λ (y : TurnView). y.turns) (sym r.1) ∙ long.5,
+            ap (λ (y : TurnView). y.all_permits) (sym r.1) ∙ long.5,
           ))
           (λ r. o.long i x r.1 lives)
           (at_set s.views id i u x t.1))
@@ -131,7 +131,7 @@ observes_permits k n id m s o wide me _ = (
 )
 
 -- the turn that has all permits and no node out finds the pass of every node in its slot
-pub every_pass_free : (k : Key) (s : St) (o : Turning k s) (id : ℕ) (v : TurnView) → get_elem? s.views id ≡ some v → v.live ≡ true → v.permits ≡ k.turns → ((j : ℕ) → has_out v j ≡ false)
+pub every_pass_free : (k : Key) (s : St) (o : Turning k s) (id : ℕ) (v : TurnView) → get_elem? s.views id ≡ some v → v.live ≡ true → v.permits ≡ k.all_permits → ((j : ℕ) → has_out v j ≡ false)
     → (xs : List Slot) → length s.homes ≡ length xs → ((j : ℕ) (y : Slot) → get_elem? s.homes j ≡ some (some y) → get_elem? xs j ≡ some y)
     → (l : ℕ) → l < nodes_of_key k → (p : Showing) × (get_elem? xs l ≡ some (Some p)) × Alone (fabric k) (run k) l p × (seen p.view l ≡ o.fires l)
 every_pass_free k s o id v me live all none-out xs long stay l near =
@@ -151,13 +151,13 @@ only_made (x ∷ vs) zero v at zeros = omega (arith, sum_by-cons made-of x vs, a
 only_made (x ∷ vs) (suc id) v at zeros = omega (arith, sum_by-cons made-of x vs, zeros 0 x (λ e. omega (arith, e)) refl, only_made vs id v at (λ j w n there. zeros (suc j) w (λ e. n (omega (arith, e))) there))
 
 -- beside a turn with all permits no other has made a firing
-made_zero : (k : Key) (s : St) (o : Turning k s) (id : ℕ) (v : TurnView) → get_elem? s.views id ≡ some v → v.permits ≡ k.turns
+made_zero : (k : Key) (s : St) (o : Turning k s) (id : ℕ) (v : TurnView) → get_elem? s.views id ≡ some v → v.permits ≡ k.all_permits
     → (j : ℕ) (w : TurnView) → j ≢ id → get_elem? s.views j ≡ some w → (b : Bool) → w.live ≡ b → w.made ≡ 0
 made_zero k s o id v me all j w n at true e = absurd (omega (arith, two_permits s.views id j v w (λ t. n (sym t)) me at, o.whole, (o.long j w at e).2))
 made_zero k s o id v me all j w n at false e = o.spent_made j w at e
 
 -- passes with the firings that the rule tells have so many more than at the start
-pub made_more : (k : Key) (s : St) (o : Turning k s) (id : ℕ) (v : TurnView) → get_elem? s.views id ≡ some v → v.permits ≡ k.turns
+pub made_more : (k : Key) (s : St) (o : Turning k s) (id : ℕ) (v : TurnView) → get_elem? s.views id ≡ some v → v.permits ≡ k.all_permits
     → (ps : List Showing) → length ps ≡ nodes_of_key k → ((l : ℕ) (p : Showing) → get_elem? ps l ≡ some p → seen p.view l ≡ o.fires l)
     → base 0 ps ≡ base 0 k.passes.value.items + v.made
 made_more k s o id v me all ps long each =

@@ -34,7 +34,7 @@ unfolding fires_of
 sum-fires [] b = refl
 sum-fires (p ∷ ps) b = sum-first (fires_of (p ∷ ps) b) (length ps) ∙ omega (arith, sum-fires ps (suc b))
 
-pub turning_starts : (k : Key) → 0 < k.turns → k.turns < 4294967296 → ((l : ℕ) (p : Showing) → get_elem? k.passes.value.items l ≡ some p → Alone (fabric k) (run k) l p)
+pub turning_starts : (k : Key) → 0 < k.all_permits → k.all_permits < 4294967296 → ((l : ℕ) (p : Showing) → get_elem? k.passes.value.items l ≡ some p → Alone (fabric k) (run k) l p)
     → Turning k (opening (replicate (nodes_of_key k) 0) (map Some k.passes.value.items) (first_turn k))
 turning_starts k some-turns few each = let ps : List Showing = k.passes.value.items in let v : TurnView = first_turn k in
     let zero-at : (l : ℕ) → get_or (replicate (nodes_of_key k) 0) l 0 ≡ 0 = λ l. replicate-default {A = ℕ} (nodes_of_key k) l 0 in
@@ -54,7 +54,7 @@ turning_starts k some-turns few each = let ps : List Showing = k.passes.value.it
         omega (arith, ap (λ (x : TurnView). x.permits) t.1),
         ap (λ (x : TurnView). x.fabric) (sym t.1),
         ap (λ (x : TurnView). x.run) (sym t.1),
-        ap (λ (x : TurnView). x.turns) (sym t.1),
+        ap (λ (x : TurnView). x.all_permits) (sym t.1),
       );
       few = few;
       spent_made = λ id u at dead. let t = only_item v u id at in absurd (false≢true (sym (ap (λ (x : TurnView). x.live) t.1 ∙ dead)));

@@ -40,7 +40,7 @@ sum_below_changed f g (suc n) l h same = dite (ℕ_discrete l n)
     (λ e. omega (arith, sum_below_changed f g n l (omega arith) same, same n (λ t. e (sym t))))
 
 -- a step of the seat id that changes neither words nor slots, nor what the turn has
-pub unmoved : (k : Key) (s : St) (o : Turning k s) (i id : ℕ) (v w : TurnView) → get_elem? s.views id ≡ some v → w.live ≡ v.live → w.permits ≡ v.permits → w.turns ≡ v.turns → w.out ≡ v.out → w.taken ≡ v.taken → w.busy ≡ v.busy → w.made ≡ v.made → w.fabric ≡ v.fabric → w.run ≡ v.run
+pub unmoved : (k : Key) (s : St) (o : Turning k s) (i id : ℕ) (v w : TurnView) → get_elem? s.views id ≡ some v → w.live ≡ v.live → w.permits ≡ v.permits → w.all_permits ≡ v.all_permits → w.out ≡ v.out → w.taken ≡ v.taken → w.busy ≡ v.busy → w.made ≡ v.made → w.fabric ≡ v.fabric → w.run ≡ v.run
     → Turning k (wheel (set s.words i (get_or s.words i 0)) s.homes (set s.views id w))
 unmoved k s o i id v w me live permits turns out taken-is busy made fab runs = subst (λ (ws : List ℕ). Turning k (wheel ws s.homes (set s.views id w))) (sym (set-get_or s.words i 0)) (record {
   fires = o.fires;
@@ -65,7 +65,7 @@ unmoved k s o i id v w me live permits turns out taken-is busy made fab runs = s
       (at_set s.views id i w u at);
   long = λ i u at lives. ⊎_elim
       (λ t. let r = o.long id v me (sym live ∙ (ap (λ (x : TurnView). x.live) t.1 ∙ lives)) in
-      (ap (λ (x : TurnView). length x.out) (sym t.1) ∙ (ap length out ∙ r.0), ap (λ (x : TurnView). length x.taken) (sym t.1) ∙ (ap length taken-is ∙ r.1), omega (arith, r.2, permits, ap (λ (x : TurnView). x.permits) t.1), ap (λ (x : TurnView). x.fabric) (sym t.1) ∙ (fab ∙ r.3), ap (λ (x : TurnView). x.run) (sym t.1) ∙ (runs ∙ r.4), ap (λ (x : TurnView). x.turns) (sym t.1) ∙ (turns ∙ r.5)))
+      (ap (λ (x : TurnView). length x.out) (sym t.1) ∙ (ap length out ∙ r.0), ap (λ (x : TurnView). length x.taken) (sym t.1) ∙ (ap length taken-is ∙ r.1), omega (arith, r.2, permits, ap (λ (x : TurnView). x.permits) t.1), ap (λ (x : TurnView). x.fabric) (sym t.1) ∙ (fab ∙ r.3), ap (λ (x : TurnView). x.run) (sym t.1) ∙ (runs ∙ r.4), ap (λ (x : TurnView). x.all_permits) (sym t.1) ∙ (turns ∙ r.5)))
       (λ t. o.long i u t.1 lives)
       (at_set s.views id i w u at);
   few = o.few;
@@ -78,7 +78,7 @@ unmoved k s o i id v w me live permits turns out taken-is busy made fab runs = s
 })
 
 -- the rule after a change of the word, the slot and the turn of node l alone
-changed : (k : Key) (s : St) (o : Turning k s) (id l bit : ℕ) (v w : TurnView) (h : mathlib.Core.Option.Option Slot) (fires owner : ℕ → ℕ) → get_elem? s.views id ≡ some v → v.live ≡ true → w.live ≡ true → l < nodes_of_key k → w.permits ≡ v.permits → w.turns ≡ v.turns → w.fabric ≡ v.fabric → w.run ≡ v.run
+changed : (k : Key) (s : St) (o : Turning k s) (id l bit : ℕ) (v w : TurnView) (h : mathlib.Core.Option.Option Slot) (fires owner : ℕ → ℕ) → get_elem? s.views id ≡ some v → v.live ≡ true → w.live ≡ true → l < nodes_of_key k → w.permits ≡ v.permits → w.all_permits ≡ v.all_permits → w.fabric ≡ v.fabric → w.run ≡ v.run
     → length w.out ≡ nodes_of_key k → length w.taken ≡ nodes_of_key k
     → ((j : ℕ) → j ≢ l → (fires j ≡ o.fires j) × (owner j ≡ o.owner j) × (has_out w j ≡ has_out v j) × (taken w j ≡ taken v j) × (w.busy ≢ j + 1 → v.busy ≢ j + 1))
     → (bit ≡ 0) ⊎ (bit ≡ 1)
@@ -130,7 +130,7 @@ changed k s o id l bit v w h fires owner me live live' near permits turns fab ru
           (λ t. let r = o.outs i u j t.1 lives has in (r.0, other j n ∙ r.1, q.1 ∙ r.2, r.3 ∙ sym q.0))
           (at_set s.views id i w u at));
       long = λ i u at lives. ⊎_elim
-          (λ t. let r = o.long id v me live in (ap (λ (x : TurnView). length x.out) (sym t.1) ∙ out-long, ap (λ (x : TurnView). length x.taken) (sym t.1) ∙ taken-long, omega (arith, r.2, permits, ap (λ (x : TurnView). x.permits) t.1), ap (λ (x : TurnView). x.fabric) (sym t.1) ∙ (fab ∙ r.3), ap (λ (x : TurnView). x.run) (sym t.1) ∙ (runs ∙ r.4), ap (λ (x : TurnView). x.turns) (sym t.1) ∙ (turns ∙ r.5)))
+          (λ t. let r = o.long id v me live in (ap (λ (x : TurnView). length x.out) (sym t.1) ∙ out-long, ap (λ (x : TurnView). length x.taken) (sym t.1) ∙ taken-long, omega (arith, r.2, permits, ap (λ (x : TurnView). x.permits) t.1), ap (λ (x : TurnView). x.fabric) (sym t.1) ∙ (fab ∙ r.3), ap (λ (x : TurnView). x.run) (sym t.1) ∙ (runs ∙ r.4), ap (λ (x : TurnView). x.all_permits) (sym t.1) ∙ (turns ∙ r.5)))
           (λ t. o.long i u t.1 lives)
           (at_set s.views id i w u at);
       few = o.few;
@@ -151,7 +151,7 @@ pub two_permits : (vs : List TurnView) (i j : ℕ) (v w : TurnView) → i ≢ j 
 two_permits vs i j v w n p q = omega (arith, sum_changed (λ (x : TurnView). x.permits) vs i v spent_turn p, permits_low (set vs i spent_turn) j w (set_else vs i j spent_turn (λ e. n (sym e)) ∙ q))
 
 -- a turn with all permits finds the word of each node free that it does not have out itself
-pub word_free : (k : Key) (s : St) (o : Turning k s) (id : ℕ) (v : TurnView) → get_elem? s.views id ≡ some v → v.live ≡ true → v.permits ≡ k.turns
+pub word_free : (k : Key) (s : St) (o : Turning k s) (id : ℕ) (v : TurnView) → get_elem? s.views id ≡ some v → v.live ≡ true → v.permits ≡ k.all_permits
     → (j : ℕ) → has_out v j ≡ false → j < nodes_of_key k → get_or s.words j 0 ≡ 0
 word_free k s o id v me live all j free h = ⊎_elim (λ e. e)
     (λ e. let a = o.away j h e in dite (ℕ_discrete (o.owner j) id)

@@ -10,11 +10,11 @@ use Rattle.ds_runner.specs.TurnstileRule.{fabric_of, run_of}
 use Rattle.ds_runner.specs.declared.turn_view.TurnView.{TurnView}
 use Rattle.ds_runner.specs.declared.plays.Key.{Key}
 
--- a turnstile: its table, the passes that it was built with, and the number of turns
+-- a turnstile: its table, the passes that it was built with, and the number of all permits
 pub record Stile : Type 0 where
   pub table_id : TableId
   pub given : List Showing
-  pub turns : ℕ
+  pub all_permits : ℕ
 
 -- a turn: its table, and what it knows
 pub record Turned : Type 0 where
@@ -26,7 +26,7 @@ pub record IsTurnOf (s : Stile) (t : Turned) : Type 0 where
   pub table : t.table_id ≡ s.table_id
   pub fabric_is : t.view.fabric ≡ fabric_of s.given
   pub run_is : t.view.run ≡ run_of s.given
-  pub turns_is : t.view.turns ≡ s.turns
+  pub all_permits_is : t.view.all_permits ≡ s.all_permits
 
 -- a pass of this turnstile, alone with the node
 abbrev pub IsPassOf : Stile → ℕ → Showing → Type 0
@@ -38,11 +38,12 @@ AreAlone ps = (l : ℕ) (p : Showing) → get_elem? ps l ≡ some p
     → Alone (fabric_of ps) (run_of ps) l p
 
 -- a turnstile of these passes, and the turn that has all permits and no node out
-pub record IsTurnstileOpened (ps : List Showing) (turns : ℕ) (s : Stile) (t : Turned) : Type 0 where
+pub record IsTurnstileOpened (ps : List Showing) (all_permits : ℕ) (s : Stile) (t : Turned)
+    : Type 0 where
   pub given_is : s.given ≡ ps
-  pub turns_is : s.turns ≡ turns
+  pub all_permits_is : s.all_permits ≡ all_permits
   pub belongs : IsTurnOf s t
-  pub permits : t.view.permits ≡ turns
+  pub permits : t.view.permits ≡ all_permits
   pub none : HasNone t.view
   pub made : t.view.made ≡ 0
   pub missed : t.view.missed ≡ 0

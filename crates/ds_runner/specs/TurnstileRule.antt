@@ -102,12 +102,12 @@ pub record Turning (k : Key) (s : State Slot TurnView) : Type 0 where
   -- each turn that is live is of this many nodes, and has a permit
   pub long : (id : ℕ) (v : TurnView) → get_elem? s.views id ≡ some v → v.live ≡ true
       → (length v.out ≡ nodes_of_key k) × (length v.taken ≡ nodes_of_key k) × (0 < v.permits)
-      × (v.fabric ≡ fabric k) × (v.run ≡ run k) × (v.turns ≡ k.turns)
-  -- all permits together are as many as the turns, and what was made is what the firings grew by
-  pub few : k.turns < 4294967296
+      × (v.fabric ≡ fabric k) × (v.run ≡ run k) × (v.all_permits ≡ k.all_permits)
+  -- the turns have all permits together, and what was made is what the firings grew by
+  pub few : k.all_permits < 4294967296
   pub spent_made : (id : ℕ) (v : TurnView) → get_elem? s.views id ≡ some v → v.live ≡ false
       → v.made ≡ 0
-  pub whole : sum_by (λ (v : TurnView). v.permits) s.views ≡ k.turns
+  pub whole : sum_by (λ (v : TurnView). v.permits) s.views ≡ k.all_permits
   pub total : sum_below fires (nodes_of_key k)
       ≡ base 0 k.passes.value.items + sum_by (λ (v : TurnView). v.made) s.views
 
@@ -117,8 +117,8 @@ first_turn k = record {
   live = true;
   fabric = fabric k;
   run = run k;
-  permits = k.turns;
-  turns = k.turns;
+  permits = k.all_permits;
+  all_permits = k.all_permits;
   out = replicate (nodes_of_key k) false;
   taken = replicate (nodes_of_key k) 0;
   busy = 0;
@@ -162,7 +162,7 @@ abbrev pub took : TurnPlay
 took st m r n =
     (r ≡ 0 → (p : Showing) × Alone m.0.fabric m.0.run st.word p × (st.word < length m.0.out)
     × (n ≡ (after_won_take m.0 st.word (seen p.view st.word), (st.word, Some p) ∷ m.1)))
-    × (r ≢ 0 → (n ≡ (after_miss m.0 st.word, m.1)) × (m.0.permits ≢ m.0.turns))
+    × (r ≢ 0 → (n ≡ (after_miss m.0 st.word, m.1)) × (m.0.permits ≢ m.0.all_permits))
 
 -- the turn has no slot in hand
 abbrev pub rested : TurnView → TurnView
@@ -196,7 +196,7 @@ one_permit v = record {
   fabric = v.fabric;
   run = v.run;
   permits = 1;
-  turns = v.turns;
+  all_permits = v.all_permits;
   out = replicate (length v.out) false;
   taken = replicate (length v.taken) 0;
   busy = 0;
@@ -222,7 +222,7 @@ spent_turn = record {
   fabric = no_table;
   run = no_run;
   permits = 0;
-  turns = 0;
+  all_permits = 0;
   out = [];
   taken = [];
   busy = 0;

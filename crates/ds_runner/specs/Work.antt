@@ -82,7 +82,7 @@ pub record IsWorkerPool (b : Base) (c : WorkerPool) : Type 0 where
   pub none : HasNone c.turn.view
   pub made : c.turn.view.made ≡ 0
   pub unfired : base 0 c.scheduler.stile.given ≡ 0
-  pub permits : c.turn.view.permits + length c.workers.items ≡ c.scheduler.stile.turns
+  pub permits : c.turn.view.permits + length c.workers.items ≡ c.scheduler.stile.all_permits
   pub are : All (IsWorker b c.scheduler.stile) c.workers.items
   pub some_workers : 0 < length c.workers.items
   pub empty : c.passes.items ≡ []

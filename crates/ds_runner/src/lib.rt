@@ -15,13 +15,13 @@
 //! but at most as many for each worker. Nothing is promised of time, or of which worker fires what.
 //!
 //! A turnstile: any thread takes the pass of any node, one thread at a time. A `Turnstile` is seen
-//! as its table, the passes that it was built with, and the number of turns. It has a word and a
-//! slot a node: the slot of a free node has its pass. A `Turn` shows its permits, the nodes that it
-//! has out, each with its firings at the take, `made`, what the firings of the passes that it gave
-//! back grew by, `won` and `missed`, the takes that had the pass and those that found it out.
-//! `build` gives one turn with all permits, `split` and `join` pass permits on, `take` and `give`
-//! move a pass, and `close` has all passes back, in order. Nothing is promised of who takes what,
-//! or that a take ever wins.
+//! as its table, the passes that it was built with, and the number of all permits. It has a word
+//! and a slot a node: the slot of a free node has its pass. A `Turn` shows its permits, the nodes
+//! that it has out, each with its firings at the take, `made`, what the firings of the passes that
+//! it gave back grew by, `won` and `missed`, the takes that had the pass and those that found it
+//! out. `build` gives one turn with all permits, `split` and `join` pass permits on, `take` and
+//! `give` move a pass, and `close` has all passes back, in order. Nothing is promised of who takes
+//! what, or that a take ever wins.
 #![tactic(auto)]
 
 mod budget;

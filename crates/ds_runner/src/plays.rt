@@ -9,11 +9,11 @@ use atomic_table::{Join, Play, Seat, Shared, Split, TableRule};
 use ds_fabric::Pass;
 use std::snapshot::Snapshot;
 
-/// The passes that the turnstile was built with, and the number of turns.
+/// The passes that the turnstile was built with, and the number of all permits.
 #[derive(Drop)]
 pub struct Key {
     pub passes: Snapshot<Vec<Pass>>,
-    pub turns: u32,
+    pub all_permits: u32,
 }
 
 /// The rule of the table.

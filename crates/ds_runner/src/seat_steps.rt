@@ -22,7 +22,7 @@ pub fn take(board: &PassBoard, seat: &mut Seated, node: usize) -> Option<Pass>
     ensures idle { seat.new.me.1 ≡ [] }
     ensures told { MatchOption result
         ((seat.new.me.0 ≡ after_miss seat.old.me.0 node)
-        × (seat.old.me.0.permits ≢ seat.old.me.0.turns))
+        × (seat.old.me.0.permits ≢ seat.old.me.0.all_permits))
         (λ p. Alone seat.old.me.0.fabric seat.old.me.0.run node p
         × (seat.new.me.0 ≡ rested (after_won_take seat.old.me.0 node (seen p.view node)))) }
 {
@@ -75,7 +75,7 @@ pub fn join(board: &PassBoard, seat: &mut Seated, other: Seated)
     requires table { (seat.old.table_id ≡ board.now.table_id)
         × (other.table_id ≡ board.now.table_id) × (0 < board.now.table_id.words) }
     requires live { (seat.old.me.0.live ≡ true) × (other.me.0.live ≡ true) × (other.me.1 ≡ []) }
-    requires free { HasNone other.me.0 }
+    requires none { HasNone other.me.0 }
 
     ensures table { seat.new.table_id ≡ seat.old.table_id }
     ensures me { seat.new.me ≡ (joined seat.old.me.0 other.me.0, seat.old.me.1) }

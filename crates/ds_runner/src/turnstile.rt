@@ -34,7 +34,7 @@ impl Model for Turnstile {
     ghost view = { λ t. record {
       table_id = t.table.shared.table_id;
       given = t.table.shared.key.passes.value.items;
-      turns = t.table.shared.key.turns;
+      all_permits = t.table.shared.key.all_permits;
     } };
 
     ghost invariant = { λ t. IsStile t.table.shared.table_id t.table.shared.key };
@@ -47,20 +47,20 @@ impl Turnstile {
     pub fn build(
         alloc: Global,
         passes: &mut Vec<Pass>,
-        turns: u32,
+        all_permits: u32,
     ) -> Result<(Turnstile, Turn), OutOfMemory>
         requires some { 0 < length passes.old.items }
         requires alone { AreAlone passes.old.items }
-        requires turns { 0 < turns }
+        requires all_permits { 0 < all_permits }
 
-        ensures ok { IfOk result (λ r. IsTurnstileOpened passes.old.items turns r.0 r.1) }
+        ensures ok { IfOk result (λ r. IsTurnstileOpened passes.old.items all_permits r.0 r.1) }
         ensures ok_none { OnOk result (passes.new.items ≡ []) }
         ensures same { OnErr result (passes.new.items ≡ passes.old.items) }
         ensures room { vec_capacity passes.new ≡ vec_capacity passes.old }
     {
         let key = Key {
             passes: Snapshot::of(passes),
-            turns,
+            all_permits,
         };
         let (words, mut slots) = rooms(alloc, passes.len())?;
         fill_slots(passes, &mut slots);
@@ -69,7 +69,7 @@ impl Turnstile {
                 Turnstile { table },
                 Turn {
                     seat,
-                    permits: turns,
+                    permits: all_permits,
                 },
             )),
             Err(Refused { slots }) => {
@@ -120,7 +120,7 @@ impl Turnstile {
         ensures took { IfSome result (λ p.
             TakesPass turn.old.view turn.new.view node (seen p.view node)) }
         ensures missed { IfNone result (Misses turn.old.view turn.new.view node) }
-        ensures whole { turn.old.view.permits ≡ self.now.turns → is_some result ≡ true }
+        ensures whole { turn.old.view.permits ≡ self.now.all_permits → is_some result ≡ true }
     {
         seat_steps::take(&self.table.shared, &mut turn.seat, node.index())
     }
@@ -150,7 +150,7 @@ impl Turnstile {
     /// has room for them. The turn has all permits, and no node out.
     pub fn close(self, turn: Turn, into: &mut Vec<Pass>)
         requires fits { IsTurnOf self turn }
-        requires whole { turn.view.permits ≡ self.turns }
+        requires whole { turn.view.permits ≡ self.all_permits }
         requires none { HasNone turn.view }
         requires room { (into.old.items ≡ []) × (length self.given ≤ vec_capacity into.old) }
         ensures { IsTurnstileClosed self turn.view.made into.new.items }

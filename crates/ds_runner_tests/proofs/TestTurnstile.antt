@@ -33,7 +33,7 @@ opened f ps s t a unfired o = let q = of_one f ps a in record {
   fabric_of_given = ap fabric_of o.given_is ∙ q.0;
   run_of_given = ap run_of o.given_is ∙ q.1;
   unfired = ap (base 0) o.given_is ∙ unfired;
-  two = o.turns_is;
+  two = o.all_permits_is;
 }
 
 -- the turn that was split, and the new one

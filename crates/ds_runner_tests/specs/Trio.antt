@@ -60,7 +60,7 @@ pub record IsTrioStile (f : Base) (s : Stile) : Type 0 where
   pub fabric_of_given : fabric_of s.given ≡ f.table_id
   pub run_of_given : run_of s.given ≡ f.run
   pub unfired : base 0 s.given ≡ 0
-  pub two : s.turns ≡ 2
+  pub two : s.all_permits ≡ 2
 
 -- a turn of this turnstile that has one permit and no node out, beside a scratch that remembers
 pub record IsIdle (f : Base) (s : Stile) (t : Turned) (scratch : Kept) : Type 0 where

@@ -3,7 +3,7 @@ use Rattle.ds_latch.specs.Node.{Split}
 use Rattle.ds_outside.specs.Pen.{Puts, Writing}
 use Rattle.ds_outside.proofs.Pens.{with_put}
 use Rattle.ds_run.specs.TraceRows.{HasLine}
-use Rattle.ds_run.specs.declared.line_text.LineText.{LineText}
+use Rattle.ds_run.specs.declared.lines_text.LinesText.{LinesText}
 use Rattle.ds_run.proofs.NodeRecords.{has_slaves}
 use Rattle.ds_run.proofs.TraceLines.{put_text, registers_after}
 use Rattle.ds_run.proofs.trace_block.put_part.Goals as goal

@@ -8,7 +8,7 @@ join_seat-requires c = let (same, alike, words) = c.requires.table in let (live,
   alike,
   empty,
   words,
-  joins c.args.board.now.key c.args.seat.now.id c.args.other.id c.args.seat.now.me.0 c.args.other.me.0 live other c.requires.free,
+  joins c.args.board.now.key c.args.seat.now.id c.args.other.id c.args.seat.now.me.0 c.args.other.me.0 live other c.requires.none,
 )
 
 pub load-requires : goal.load-requires

@@ -42,7 +42,7 @@ returns c = let (empty, _, _) = c.requires.idle in let (same, _, rest_is) = c.lo
     after ∙ (ap (λ (m : TurnSeat). (m.0, (node, None) ∷ rest m.1)) h.3 ∙ ap (λ (cs : List (ℕ × Slot)). (w, (node, None) ∷ cs)) empty) in
     let is : c.load.new.seat.me ≡ (record w { busy = 0 }, []) = rest_is ∙ ap (λ (m : TurnSeat). (record m.0 { busy = 0 }, [])) x in
     let found : Some p ≡ c.exchange-pass.result = ap front (sym (ap (λ (m : TurnSeat). m.1) h.3) ∙ taken) in
-    let P : Slot → Type 0 = λ r. MatchOption r ((c.load.new.seat.me.0 ≡ after_miss v node) × (v.permits ≢ v.turns))
+    let P : Slot → Type 0 = λ r. MatchOption r ((c.load.new.seat.me.0 ≡ after_miss v node) × (v.permits ≢ v.all_permits))
     (λ q. Alone v.fabric v.run node q × (c.load.new.seat.me.0 ≡ rested (after_won_take v node (seen q.view node)))) in record {
       table = same ∙ (alike ∙ also);
       idle = ap (λ (m : TurnSeat). m.1) is;

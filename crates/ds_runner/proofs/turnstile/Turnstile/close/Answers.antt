@@ -17,10 +17,10 @@ use Rattle.ds_runner.proofs.SlotLemmas.{InSlot}
 use Rattle.ds_runner.proofs.turnstile.Turnstile.close.Goals as goal
 
 -- what a turn that shows so much must have
-all_of : (k : Key) (v : TurnView) (id ids : Rattle.atomic_table.specs.Seated.TableId) (s : Stile) (t : Turned) → ◌≡◌ {A = Stile} (record { table_id = ids; given = k.passes.value.items; turns = k.turns }) s
-    → ◌≡◌ {A = Turned} (record { table_id = id; view = v }) t → t.view.permits ≡ s.turns → HasNone t.view → (v.permits ≡ k.turns) × HasNone v
+all_of : (k : Key) (v : TurnView) (id ids : Rattle.atomic_table.specs.Seated.TableId) (s : Stile) (t : Turned) → ◌≡◌ {A = Stile} (record { table_id = ids; given = k.passes.value.items; all_permits = k.all_permits }) s
+    → ◌≡◌ {A = Turned} (record { table_id = id; view = v }) t → t.view.permits ≡ s.all_permits → HasNone t.view → (v.permits ≡ k.all_permits) × HasNone v
 all_of k v id ids s t self-is turn-is whole none = (
-  ap (λ (x : Turned). x.view.permits) turn-is ∙ (whole ∙ sym (ap (λ (x : Stile). x.turns) self-is)),
+  ap (λ (x : Turned). x.view.permits) turn-is ∙ (whole ∙ sym (ap (λ (x : Stile). x.all_permits) self-is)),
   λ l. ap (λ (x : Turned). has_out x.view l) turn-is ∙ none l,
 )
 

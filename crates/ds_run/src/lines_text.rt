@@ -8,18 +8,18 @@ use std::alloc::Global;
 
 // What was written of lines, and whether a write failed for want of memory.
 #[derive(Drop)]
-pub(crate) struct LineText {
+pub(crate) struct LinesText {
     bytes: Vec<u8>,
     refused: Option<OutOfMemory>,
 }
 
-impl LineText {
+impl LinesText {
     // Nothing yet, with room for so many bytes.
     pub(crate) fn with_room(alloc: Global, room: usize) -> Result<Self, OutOfMemory>
-        ensures empty { IfOk result (λ text. ⟦<LineText as Sink>⟧.written text ≡ Some []) }
-        ensures no_fault { IfOk result (λ text. ⟦<LineText as Sink>⟧.faults text ≡ 0) }
+        ensures empty { IfOk result (λ text. ⟦<LinesText as Sink>⟧.written text ≡ Some []) }
+        ensures no_fault { IfOk result (λ text. ⟦<LinesText as Sink>⟧.faults text ≡ 0) }
     {
-        Ok(LineText {
+        Ok(LinesText {
             bytes: Vec::with_capacity(alloc, room)?,
             refused: None,
         })
@@ -27,14 +27,14 @@ impl LineText {
 
     // The bytes so far.
     pub(crate) fn bytes(&self) -> &[u8]
-        ensures { ⟦<LineText as Sink>⟧.written self.now ≡ Some result.now }
+        ensures { ⟦<LinesText as Sink>⟧.written self.now ≡ Some result.now }
     {
         &self.bytes
     }
 
     // The want of memory for which a write failed.
     pub(crate) fn refusal(&self) -> OutOfMemory
-        requires { 0 < ⟦<LineText as Sink>⟧.faults self.now }
+        requires { 0 < ⟦<LinesText as Sink>⟧.faults self.now }
     {
         match self.refused {
             Some(refusal) => refusal,
@@ -43,7 +43,7 @@ impl LineText {
     }
 }
 
-impl Sink for LineText {
+impl Sink for LinesText {
     ghost use Rattle.std.specs.Prelude.{Some};
     ghost use Rattle.ds_run.specs.Refused.{faults_by};
 
