@@ -7,7 +7,7 @@
 //! of a graph of signals, which `specs/Text` gives to the byte: its own signals are outputs, and
 //! further ones are internal; of several arcs with the same ends the first is implicit, and each
 //! other one is a place of its own. Where a write fails, a first part of the text is appended.
-//! `ds_astg_laws` says what follows: what is written is read as the same graph, texts that are
+//! `ds_text_laws` says what follows: what is written is read as the same graph, texts that are
 //! worked by hand.
 //!
 //! `write` takes no memory, and hands the text on in pieces of up to 65,536 bytes.

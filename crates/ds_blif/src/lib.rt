@@ -6,7 +6,7 @@
 //! fixed order. Want of memory alone is answered freely.
 //!
 //! What a text means is `specs/Text`: `specs/State` has the faults, line by line, `specs/Parts` the
-//! models, from the last line to the first. `ds_blif_laws` says what follows: the models are well
+//! models, from the last line to the first. `ds_text_laws` says what follows: the models are well
 //! formed, what is printed is read, texts that are worked by hand.
 //!
 //! Not promised: that used models and their formals are there, or that nets are driven.

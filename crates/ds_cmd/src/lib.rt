@@ -4,7 +4,7 @@
 //! its numbers.
 //! `parse` gives exactly the job that the words ask for, or exactly why they are no command line.
 //! What `clap` takes decides: its definition for simple commands, over the table of commands in
-//! `specs/Commands.antt`, where a command joins by an entry. `ds_cmd_laws` says without `clap`
+//! `specs/Commands.antt`, where a command joins by an entry. `ds_text_laws` says without `clap`
 //! which lines are taken: the name of a command, its files or its numbers in decimal, and the
 //! option behind them; and that no other name is. Of several faults a bad line comes first, then a
 //! bad number, then a bad mode; open latches or an expansion beside slack

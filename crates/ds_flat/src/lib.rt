@@ -7,7 +7,7 @@
 //! numbered as they first appear.
 //!
 //! A caller sees which design or fault it is by `flat_of` of specs/Copies, which gives one answer
-//! for each list of models; by the laws of `ds_flat_laws` each number in such a design names what
+//! for each list of models; by the laws of `ds_text_laws` each number in such a design names what
 //! is there. Not promised is when memory is wanted.
 #![tactic(auto)]
 

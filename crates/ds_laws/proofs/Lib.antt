@@ -20,3 +20,10 @@ pub mod StoredSoFar
 pub mod Uncut
 pub mod Grouping
 pub mod TimedLogs
+pub mod FewArcs
+pub mod GraphLines
+pub mod ModelName
+pub mod GraphSignals
+pub mod PrintedPlans
+pub mod PrintedIsTaken
+pub mod PrintedRanks

@@ -74,7 +74,7 @@ use Rattle.ds_app.specs.RunStage.{planned_run_stage, stopped_stage, traced_stage
 use Rattle.ds_app.specs.Status.{AreTold, IsToldIn}
 use Rattle.ds_app.proofs.ExclusiveJobs.{told_file}
 use Rattle.ds_laws.specs.OneLine.{JobsHaveOneLine, NameCycles}
-use Rattle.ds_astg_laws.proofs.ReadKept.{read_kept}
+use Rattle.ds_text_laws.proofs.ReadKept.{read_kept}
 
 -- two lines are one, but for which cycle they name
 abbrev AreOneLine : List ℕ → List ℕ → Type 0

@@ -9,3 +9,4 @@ pub mod OneLine
 pub mod Grouping
 pub mod TimedLogs
 pub mod Answered
+pub mod PrintedGraphs

@@ -13,10 +13,13 @@
 //! go by way of its request and its acknowledge. Of refused jobs: two lines that refuse one are the
 //! same, or name cycles; and a fault has its own status where no read failed that a stage before it
 //! needs. Of groups: what `clusters` prints gives the same clusters again, and without a file of
-//! groups there are those of the mode.
+//! groups there are those of the mode. Of printed graphs: what `graph` prints, with `--shake` or
+//! without, is read as the graph that was printed, and `accept` of the same netlist and clusters
+//! takes it, and has a text of it.
 #![tactic(auto)]
 
 mod answers;
+mod graphs;
 mod groups;
 mod latches;
 mod logs;
@@ -25,6 +28,7 @@ mod orders;
 mod texts;
 
 pub use answers::{exact_fault_early, jobs_have_one_line};
+pub use graphs::{printed_graphs_are_read, printed_graphs_are_taken, printed_graphs_have_ranks};
 pub use groups::{printed_clusters_are_groups, without_file_of_groups};
 pub use latches::{read_rows_stay, stored_are_there};
 pub use logs::{

@@ -1,5 +1,0 @@
-use Rattle.ds_accept_laws.proofs.EventsDecided.{events_are_decided}
-use Rattle.ds_accept_laws.proofs.graphs.events_are_decided.Goals as goal
-
-pub returns : goal.returns
-returns c = events_are_decided

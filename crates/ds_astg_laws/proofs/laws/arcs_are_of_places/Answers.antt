@@ -1,5 +1,0 @@
-use Rattle.ds_astg_laws.proofs.ArcsOfPlaces.{arcs_are_of_places_lem}
-use Rattle.ds_astg_laws.proofs.laws.arcs_are_of_places.Goals as goal
-
-pub returns : goal.returns
-returns c = arcs_are_of_places_lem

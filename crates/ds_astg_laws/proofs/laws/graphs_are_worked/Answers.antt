@@ -1,9 +1,0 @@
-use Rattle.std.proofs.Common.{refl}
-use Rattle.ds_lines.specs.Line.{words_in, joins}
-use Rattle.ds_astg.specs.Word.{is_reserved, is_signed}
-use Rattle.ds_astg.specs.Line.{graph_head_of, is_declaration}
-use Rattle.ds_astg_laws.proofs.laws.graphs_are_worked.Goals as goal
-
-pub returns : goal.returns
-unfolding words_in joins is_reserved is_signed graph_head_of is_declaration
-returns c = record { empty = refl; declared = refl; again = refl; places = refl; tokens = refl; later = refl; dummies = refl }

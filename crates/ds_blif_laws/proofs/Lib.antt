@@ -1,5 +1,0 @@
-pub mod Clean
-pub mod Heads
-pub mod FaultOrder
-pub mod InParts
-pub mod PrintedModels

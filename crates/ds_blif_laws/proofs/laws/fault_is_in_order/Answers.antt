@@ -1,5 +1,0 @@
-use Rattle.ds_blif_laws.proofs.FaultOrder.{in_order}
-use Rattle.ds_blif_laws.proofs.laws.fault_is_in_order.Goals as goal
-
-pub returns : goal.returns
-returns c = in_order

@@ -1,5 +1,0 @@
-use Rattle.ds_blif_laws.proofs.InParts.{lines_in_parts}
-use Rattle.ds_blif_laws.proofs.laws.lines_stand_in_parts.Goals as goal
-
-pub returns : goal.returns
-returns c = lines_in_parts

@@ -1,5 +1,0 @@
-use Rattle.ds_blif.proofs.WellFormed.{read_well_formed}
-use Rattle.ds_blif_laws.proofs.laws.models_are_well_formed.Goals as goal
-
-pub returns : goal.returns
-returns c = read_well_formed

@@ -1,9 +1,0 @@
-pub mod TakenCommands
-pub mod UnknownCommand
-pub mod TakenGraph
-pub mod TakenPeriod
-pub mod TakenSlack
-pub mod TakenClusters
-pub mod TakenNumbers
-pub mod TakenReplay
-pub mod TakenTimes

@@ -1,7 +1,0 @@
-use Rattle.std.proofs.Common.{sym, subst}
-use Rattle.ds_rule.specs.Sound.{IsSound}
-use Rattle.ds_fabric_tests.proofs.ToggleRun.{sound}
-use Rattle.ds_fabric_tests.proofs.toggle.begin.Goals as goal
-
-pub build-requires-clause-sound : goal.build-requires-clause-sound
-build-requires-clause-sound c = subst IsSound (sym c.requires) sound

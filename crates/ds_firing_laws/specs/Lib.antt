@@ -1,3 +1,0 @@
-pub mod Traces
-pub mod Firings
-pub mod Texts

@@ -1,4 +1,0 @@
-pub mod InCopies
-pub mod RecursiveModels
-pub mod FaultLines
-pub mod FaultNumbers

@@ -1,5 +1,0 @@
-use Rattle.ds_flat_laws.proofs.FaultLines.{faults_are_on_lines_lem}
-use Rattle.ds_flat_laws.proofs.laws.faults_are_on_lines.Goals as goal
-
-pub returns : goal.returns
-returns c = faults_are_on_lines_lem

@@ -1,5 +1,0 @@
-use Rattle.ds_flat_laws.proofs.InCopies.{flat_of_copies}
-use Rattle.ds_flat_laws.proofs.laws.flat_designs_are_of_copies.Goals as goal
-
-pub returns : goal.returns
-returns c = flat_of_copies

@@ -1,5 +1,0 @@
-use Rattle.ds_flat_laws.proofs.RecursiveModels.{recursive_faults_are_circles_lem}
-use Rattle.ds_flat_laws.proofs.laws.recursive_faults_are_circles.Goals as goal
-
-pub returns : goal.returns
-returns c = recursive_faults_are_circles_lem

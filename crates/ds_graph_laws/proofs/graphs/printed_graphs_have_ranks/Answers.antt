@@ -1,5 +1,0 @@
-use Rattle.ds_graph_laws.proofs.PrintedRanks.{printed_graphs_have_ranks}
-use Rattle.ds_graph_laws.proofs.graphs.printed_graphs_have_ranks.Goals as goal
-
-pub returns : goal.returns
-returns c = printed_graphs_have_ranks

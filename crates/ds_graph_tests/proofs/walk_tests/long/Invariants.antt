@@ -1,5 +1,0 @@
-use Rattle.ds_marked.specs.Graph.{AreEnds}
-use Rattle.ds_graph_tests.proofs.walk_tests.long.Given as goal
-
-abbrev pub invariant-loop : goal.invariant-loop
-invariant-loop l = AreEnds 3 l.asked.items

@@ -1,2 +1,0 @@
-pub mod RunsAreKnown
-pub mod Traces

@@ -1,0 +1,24 @@
+-- In the order in which to read.
+pub mod Known
+pub mod Ranked
+pub mod DecidedDesigns
+pub mod Periods
+pub mod OnePeriod
+pub mod Fewest
+pub mod OneSchedule
+pub mod Listed
+pub mod Paced
+pub mod Clocked
+pub mod TotalSplits
+pub mod CountedArcs
+pub mod Walks
+pub mod DecidedGraphs
+pub mod Plans
+pub mod DecidedExpansions
+pub mod DrawnTickets
+pub mod TableCounts
+pub mod Steps
+pub mod TurnedPasses
+pub mod Traces
+pub mod Firings
+pub mod Texts

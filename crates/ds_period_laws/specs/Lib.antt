@@ -1,3 +1,0 @@
-pub mod Periods
-pub mod Single
-pub mod Fewest

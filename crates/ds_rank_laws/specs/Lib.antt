@@ -1,3 +1,0 @@
--- In the order in which to read.
-pub mod Ranked
-pub mod Decided

@@ -1,4 +1,0 @@
-pub mod SortedEnds
-pub mod HandshakeNumbering
-pub mod ExpansionsDecided
-pub mod WantedGraphs

@@ -1,0 +1,7 @@
+use Rattle.std.proofs.Common.{sym, subst}
+use Rattle.ds_rule.specs.Sound.{IsSound}
+use Rattle.ds_table_tests.proofs.ToggleRun.{sound}
+use Rattle.ds_table_tests.proofs.toggle.begin.Goals as goal
+
+pub build-requires-clause-sound : goal.build-requires-clause-sound
+build-requires-clause-sound c = subst IsSound (sym c.requires) sound

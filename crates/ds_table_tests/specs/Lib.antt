@@ -1,0 +1,2 @@
+pub mod Toggle
+pub mod Trio
