@@ -24,7 +24,7 @@ use Rattle.ds_split.proofs.Sources.{flat_apart}
 use Rattle.ds_rows.specs.Log.{fired_line, stored_text}
 use Rattle.ds_rows.specs.Nets.{register_of}
 use Rattle.ds_rows.specs.StateText.{HasStored, IsStateText}
-use Rattle.ds_part_laws.proofs.LegalListsExist.{whole_long}
+use Rattle.ds_table_laws.proofs.LegalListsExist.{whole_long}
 use Rattle.ds_laws.specs.Logs.{WholeStatesAreClocked}
 use Rattle.ds_laws.proofs.NothingOpen.{counts_are}
 

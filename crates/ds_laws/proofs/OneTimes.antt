@@ -9,9 +9,9 @@ use Rattle.ds_period.specs.Timing.{timed_arcs}
 use Rattle.ds_times.specs.Order.{IsByRank, firings_from}
 use Rattle.ds_times.proofs.ArcsByRank.{timed_rises}
 use Rattle.ds_times.proofs.Times.{same_times}
-use Rattle.ds_part_laws.proofs.ListPositions.{contains_head, contains_tail}
-use Rattle.ds_part_laws.proofs.OneOrder.{events_have_one_order}
-use Rattle.ds_part_laws.proofs.TurnListing.{in_turns}
+use Rattle.ds_graph_laws.proofs.ListPositions.{contains_head, contains_tail}
+use Rattle.ds_graph_laws.proofs.OneOrder.{events_have_one_order}
+use Rattle.ds_graph_laws.proofs.TurnListing.{in_turns}
 use Rattle.ds_stage.specs.TimesStage.{IsTimesText, time_line, time_lines}
 
 -- texts that agree item by item

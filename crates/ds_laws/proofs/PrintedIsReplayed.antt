@@ -43,7 +43,7 @@ use Rattle.ds_stage.proofs.PlanAccepted.{planned_circuit, planned_is_plan}
 use Rattle.ds_stage.proofs.PlanExclusive.{planned_exclusive}
 use Rattle.ds_replay.specs.OpenLines.{open_lines}
 use Rattle.ds_replay.specs.ReplayText.{IsReplayText}
-use Rattle.ds_part_laws.proofs.LegalListsExist.{whole_long}
+use Rattle.ds_table_laws.proofs.LegalListsExist.{whole_long}
 use Rattle.ds_laws.specs.Logs.{IsFiredWhole, IsShort, ReplaysAll, SaysAllFired, logged_run, replay_after}
 use Rattle.ds_laws.proofs.LoggedIsFired.{logged_is_fired}
 use Rattle.ds_laws.proofs.NothingOpen.{no_open_lines, none_open}

@@ -20,7 +20,7 @@ use Rattle.ds_latch.proofs.OrderTokens.{edge_tokens}
 use Rattle.ds_latch.proofs.OrdersRise.{orders_are_accepted}
 use Rattle.ds_control.specs.Orders.{tokens_after}
 use Rattle.ds_control.proofs.Required.{named, tokens_is}
-use Rattle.ds_part_laws.proofs.Slack.{few_at_slack, split_at_slack}
+use Rattle.ds_graph_laws.proofs.Slack.{few_at_slack, split_at_slack}
 use Rattle.ds_split.specs.Laws.{OneGroupedClustering}
 use Rattle.ds_split.specs.Split.{HasTooManyOrders}
 use Rattle.ds_shake.specs.Expansion.{expanded_arcs, freeing_tokens, handshake_arcs}

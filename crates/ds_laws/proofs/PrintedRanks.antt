@@ -4,7 +4,7 @@ use Rattle.ds_design.specs.Accepted.{IsAccepted}
 use Rattle.ds_design.specs.Circuit.{Circuit}
 use Rattle.ds_latch.specs.Node.{slackened}
 use Rattle.ds_latch.specs.Plan.{IsPlan, Planned}
-use Rattle.ds_part_laws.proofs.RanksOrCycle.{live_graphs_have_ranks}
+use Rattle.ds_graph_laws.proofs.RanksOrCycle.{live_graphs_have_ranks}
 use Rattle.ds_stage.specs.AcceptStage.{ranks_text}
 use Rattle.ds_stage.proofs.PlanAccepted.{planned_is_plan}
 use Rattle.ds_laws.specs.PrintedGraphs.{IsReadBack, PrintedGraphsHaveRanks}

@@ -11,9 +11,9 @@ use Rattle.ds_marked.specs.Log.{IsEventText, IsLegalLogFrom, event_text, text_of
 use Rattle.ds_marked.specs.declared.marked.Event.{Event}
 use Rattle.ds_replay.proofs.LineFaults.{any_event}
 use Rattle.ds_times.specs.Order.{AreAllFirings, Firing, IsListedBefore, fired_events, firings_from}
-use Rattle.ds_part_laws.specs.Listed.{HaveNextTurns}
-use Rattle.ds_part_laws.proofs.Legality.{listed_are_legal, listed_are_numbered}
-use Rattle.ds_part_laws.proofs.TurnListing.{turns_are_listed}
+use Rattle.ds_graph_laws.specs.Listed.{HaveNextTurns}
+use Rattle.ds_graph_laws.proofs.Legality.{listed_are_legal, listed_are_numbered}
+use Rattle.ds_graph_laws.proofs.TurnListing.{turns_are_listed}
 use Rattle.ds_stage.specs.TimesStage.{time_line}
 use Rattle.ds_laws.specs.TimedLogs.{TimesAreLogs}
 

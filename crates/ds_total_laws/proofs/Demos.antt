@@ -15,7 +15,7 @@ use Rattle.ds_demo.proofs.DemoInRange.{in_range}
 use Rattle.ds_run.specs.Summed.{ones_in}
 use Rattle.ds_app.specs.DemoStage.{demo_stage, summary_text}
 use Rattle.ds_total_laws.specs.Decided.{IsDecided}
-use Rattle.ds_part_laws.proofs.SomeTrace.{traces_exist}
+use Rattle.ds_table_laws.proofs.SomeTrace.{traces_exist}
 
 demo_accepted : (seed registers : ℕ) → 1 ≤ registers → IsAccepted (demo_design seed registers)
 unfolding demo_design

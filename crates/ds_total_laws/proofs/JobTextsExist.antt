@@ -21,14 +21,14 @@ use Rattle.ds_replay.specs.Replay.{log_of, replay_of}
 use Rattle.ds_replay.specs.ReplayText.{IsReplayText}
 use Rattle.ds_replay.specs.declared.fault.ReplayKind.{ReplayKind}
 use Rattle.ds_replay.proofs.LogLines.{legal}
-use Rattle.ds_part_laws.proofs.DesignsDecided.{designs_have_depth}
-use Rattle.ds_part_laws.proofs.RanksOrCycle.{live_graphs_have_ranks}
-use Rattle.ds_part_laws.specs.Texts.{IsPlannedRun}
-use Rattle.ds_part_laws.proofs.ReplayTextsExist.{replay_texts_exist}
-use Rattle.ds_part_laws.proofs.RunTextsExist.{run_texts_exist}
-use Rattle.ds_part_laws.proofs.SomeTrace.{traces_exist}
-use Rattle.ds_part_laws.proofs.StoppedTextsExist.{stopped_texts_exist}
-use Rattle.ds_part_laws.proofs.TimedGraphs.{plans_are_timed}
+use Rattle.ds_graph_laws.proofs.DesignsDecided.{designs_have_depth}
+use Rattle.ds_graph_laws.proofs.RanksOrCycle.{live_graphs_have_ranks}
+use Rattle.ds_table_laws.specs.Texts.{IsPlannedRun}
+use Rattle.ds_table_laws.proofs.ReplayTextsExist.{replay_texts_exist}
+use Rattle.ds_table_laws.proofs.RunTextsExist.{run_texts_exist}
+use Rattle.ds_table_laws.proofs.SomeTrace.{traces_exist}
+use Rattle.ds_table_laws.proofs.StoppedTextsExist.{stopped_texts_exist}
+use Rattle.ds_graph_laws.proofs.TimedGraphs.{plans_are_timed}
 use Rattle.ds_stage.specs.AcceptStage.{ranks_stage, ranks_text}
 use Rattle.ds_stage.specs.FaultText.{numbered_line}
 use Rattle.ds_stage.specs.PeriodStage.{IsPeriodText, delay_text, delays_stage, given_stage, period_text, timed_stage}

@@ -1,3 +1,7 @@
+pub mod SortedEnds
+pub mod HandshakeNumbering
+pub mod ExpansionsDecided
+pub mod WantedGraphs
 pub mod AbsentFiles
 pub mod StagesDecided
 pub mod StreamDecided

@@ -10,7 +10,7 @@ use Rattle.ds_design.specs.Circuit.{Circuit}
 use Rattle.ds_design.specs.InRange.{IsInRange}
 use Rattle.ds_netlist.specs.declared.fault.NetFault.{NetFault}
 use Rattle.ds_netlist.specs.declared.fault.NetFault.TheVariants as net
-use Rattle.ds_part_laws.proofs.DesignsDecided.{designs_are_decided}
+use Rattle.ds_graph_laws.proofs.DesignsDecided.{designs_are_decided}
 use Rattle.ds_stage.specs.FaultText.{IsNetFaultText, blif_text, file_line, flat_text}
 use Rattle.ds_stage.specs.Stage.{Stage, then_stage}
 use Rattle.ds_stage.specs.Stages.{accepted_stage, file_stage, netlist_stage}

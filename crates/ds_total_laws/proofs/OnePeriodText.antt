@@ -8,7 +8,7 @@ use Rattle.ds_latch.specs.Plan.{Planned}
 use Rattle.ds_period.specs.Period.{IsPeriod}
 use Rattle.ds_period.specs.Read.{delays_of}
 use Rattle.ds_period.specs.Timing.{timed_arcs}
-use Rattle.ds_part_laws.proofs.OnePeriod.{graphs_have_one_period}
+use Rattle.ds_graph_laws.proofs.OnePeriod.{graphs_have_one_period}
 use Rattle.ds_stage.specs.PeriodStage.{IsPeriodText, delay_text, delays_stage, given_stage, period_text, timed_stage}
 use Rattle.ds_stage.specs.PlanStage.{planned_stage}
 use Rattle.ds_stage.specs.RateStage.{bare_graph_stage}

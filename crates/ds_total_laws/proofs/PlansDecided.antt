@@ -12,9 +12,9 @@ use Rattle.ds_latch.specs.Node.{Split, slackened}
 use Rattle.ds_accept.specs.declared.fault.AcceptFault.{AcceptFault}
 use Rattle.ds_accept.specs.declared.fault.AcceptFault.TheVariants as accept
 use Rattle.ds_text_laws.proofs.ReadKept.{read_kept}
-use Rattle.ds_part_laws.proofs.GraphsDecided.{graphs_are_decided}
-use Rattle.ds_part_laws.proofs.PlansExist.{acceptable_graphs_have_plans}
-use Rattle.ds_part_laws.proofs.DataEdgesListed.{edges_listed}
+use Rattle.ds_graph_laws.proofs.GraphsDecided.{graphs_are_decided}
+use Rattle.ds_graph_laws.proofs.PlansExist.{acceptable_graphs_have_plans}
+use Rattle.ds_graph_laws.proofs.DataEdgesListed.{edges_listed}
 use Rattle.ds_stage.specs.FaultText.{file_line}
 use Rattle.ds_stage.specs.GraphText.{IsAcceptText, astg_text}
 use Rattle.ds_stage.specs.Stages.{lines_stage, read_or_line, result_stage}

@@ -10,15 +10,15 @@ use Rattle.ds_marked.specs.Log.{text_of_event}
 use Rattle.ds_rank.specs.Order.{HasEdge}
 use Rattle.ds_rank.specs.Free.{edge_of_arc}
 use Rattle.ds_rank.proofs.RelatedOrders.{cycle_by}
-use Rattle.ds_part_laws.proofs.RanksOrCycle.{events_have_ranks_or_cycle, live_graphs_have_ranks, ranks_or_cycle}
+use Rattle.ds_graph_laws.proofs.RanksOrCycle.{events_have_ranks_or_cycle, live_graphs_have_ranks, ranks_or_cycle}
 use Rattle.ds_period.specs.Controller.{HasPeriod}
 use Rattle.ds_period.specs.Read.{delays_of}
 use Rattle.ds_period.specs.Timing.{HasCycle, Leads, timed_arcs}
 use Rattle.ds_period.proofs.ClosedWalks.{cycle_closes, edge_by, ends_of, leads_from, none_closes}
-use Rattle.ds_part_laws.proofs.TimedGraphs.{delays_are_one_each, graphs_have_periods}
+use Rattle.ds_graph_laws.proofs.TimedGraphs.{delays_are_one_each, graphs_have_periods}
 use Rattle.ds_times.proofs.SchedulesExist.{some_schedule}
 use Rattle.ds_times.proofs.ArcsByRank.{ranked_live, timed_rises}
-use Rattle.ds_part_laws.proofs.OneOrder.{events_have_one_order}
+use Rattle.ds_graph_laws.proofs.OneOrder.{events_have_one_order}
 use Rattle.ds_astg.specs.Read.{graph_of_lines}
 use Rattle.ds_text_laws.proofs.ReadKept.{read_kept}
 use Rattle.ds_cmd.specs.declared.rate.RateJob.{RateJob}

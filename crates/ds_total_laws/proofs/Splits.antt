@@ -18,12 +18,12 @@ use Rattle.ds_design.specs.Circuit.{Circuit}
 use Rattle.ds_latch.specs.Node.{Split, slackened}
 use Rattle.ds_latch.specs.Plan.{IsSplit}
 use Rattle.ds_split.specs.Split.{HasTooManyOrders, split_into}
-use Rattle.ds_part_laws.proofs.ControllersExist.{controller_exists}
-use Rattle.ds_part_laws.proofs.DataEdgesListed.{edges_listed}
-use Rattle.ds_part_laws.proofs.SplitsDecided.{orders_decided}
-use Rattle.ds_part_laws.proofs.GroupedClusterings.{grouped_clusterings_exist}
-use Rattle.ds_part_laws.proofs.Slack.{few_at_slack, split_at_slack}
-use Rattle.ds_part_laws.proofs.WantedGraphs.{controllers_are_decided}
+use Rattle.ds_graph_laws.proofs.ControllersExist.{controller_exists}
+use Rattle.ds_graph_laws.proofs.DataEdgesListed.{edges_listed}
+use Rattle.ds_graph_laws.proofs.SplitsDecided.{orders_decided}
+use Rattle.ds_graph_laws.proofs.GroupedClusterings.{grouped_clusterings_exist}
+use Rattle.ds_graph_laws.proofs.Slack.{few_at_slack, split_at_slack}
+use Rattle.ds_total_laws.proofs.WantedGraphs.{controllers_are_decided}
 use Rattle.ds_stage.specs.FaultText.{file_line, too_many_text}
 use Rattle.ds_stage.specs.GraphStage.{IsGraphOf, controller_stage}
 use Rattle.ds_stage.specs.Stages.{OfBytes, lines_stage, read_or_line, text_stage}

@@ -1,4 +1,5 @@
 -- In the order in which to read.
+pub mod DecidedExpansions
 pub mod FileBytes
 pub mod Absent
 pub mod Decided

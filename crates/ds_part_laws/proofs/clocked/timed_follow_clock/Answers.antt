@@ -1,5 +1,0 @@
-use Rattle.ds_part_laws.proofs.ScheduleFollowsClock.{timed_follow}
-use Rattle.ds_part_laws.proofs.clocked.timed_follow_clock.Goals as goal
-
-pub returns : goal.returns
-returns c = timed_follow

@@ -1,5 +1,0 @@
-use Rattle.ds_part_laws.proofs.DesignsDecided.{designs_have_depth}
-use Rattle.ds_part_laws.proofs.designs.designs_have_depth.Goals as goal
-
-pub returns : goal.returns
-returns c = designs_have_depth

@@ -1,5 +1,0 @@
-use Rattle.ds_part_laws.proofs.ParallelArcDelays.{fewest_reach}
-use Rattle.ds_part_laws.proofs.fewest.cycles_go_by_fewest_tokens.Goals as goal
-
-pub returns : goal.returns
-returns c = fewest_reach

@@ -1,5 +1,0 @@
-use Rattle.ds_part_laws.proofs.Traces.{known_traces_are_known}
-use Rattle.ds_part_laws.proofs.known.known_traces_are_known.Goals as goal
-
-pub returns : goal.returns
-returns c = known_traces_are_known

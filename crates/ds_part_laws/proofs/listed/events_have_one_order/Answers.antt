@@ -1,5 +1,0 @@
-use Rattle.ds_part_laws.proofs.OneOrder.{events_have_one_order}
-use Rattle.ds_part_laws.proofs.listed.events_have_one_order.Goals as goal
-
-pub returns : goal.returns
-returns c = events_have_one_order

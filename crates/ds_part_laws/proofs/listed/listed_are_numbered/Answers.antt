@@ -1,5 +1,0 @@
-use Rattle.ds_part_laws.proofs.Legality.{listed_are_numbered}
-use Rattle.ds_part_laws.proofs.listed.listed_are_numbered.Goals as goal
-
-pub returns : goal.returns
-returns c = listed_are_numbered

@@ -1,5 +1,0 @@
-use Rattle.ds_part_laws.proofs.TurnListing.{turns_are_listed}
-use Rattle.ds_part_laws.proofs.listed.turns_are_listed.Goals as goal
-
-pub returns : goal.returns
-returns c = turns_are_listed

@@ -1,5 +1,0 @@
-use Rattle.ds_part_laws.proofs.TimeBounds.{cycles_pace_times}
-use Rattle.ds_part_laws.proofs.paced.cycles_pace_times.Goals as goal
-
-pub returns : goal.returns
-returns c = cycles_pace_times

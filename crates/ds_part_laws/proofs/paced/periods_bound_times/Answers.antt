@@ -1,5 +1,0 @@
-use Rattle.ds_part_laws.proofs.TimeBounds.{periods_bound_times}
-use Rattle.ds_part_laws.proofs.paced.periods_bound_times.Goals as goal
-
-pub returns : goal.returns
-returns c = periods_bound_times

@@ -1,5 +1,0 @@
-use Rattle.ds_part_laws.proofs.TimedGraphs.{delays_are_one_each}
-use Rattle.ds_part_laws.proofs.periods.delays_are_one_each.Goals as goal
-
-pub returns : goal.returns
-returns c = delays_are_one_each

@@ -1,5 +1,0 @@
-use Rattle.ds_part_laws.proofs.TimedGraphs.{periods_exist}
-use Rattle.ds_part_laws.proofs.periods.periods_exist.Goals as goal
-
-pub returns : goal.returns
-returns c = periods_exist

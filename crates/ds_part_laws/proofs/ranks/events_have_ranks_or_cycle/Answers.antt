@@ -1,5 +1,0 @@
-use Rattle.ds_part_laws.proofs.RanksOrCycle.{events_have_ranks_or_cycle}
-use Rattle.ds_part_laws.proofs.ranks.events_have_ranks_or_cycle.Goals as goal
-
-pub returns : goal.returns
-returns c = events_have_ranks_or_cycle

@@ -1,5 +1,0 @@
-use Rattle.ds_part_laws.proofs.RanksOrCycle.{live_graphs_have_ranks}
-use Rattle.ds_part_laws.proofs.ranks.live_graphs_have_ranks.Goals as goal
-
-pub returns : goal.returns
-returns c = live_graphs_have_ranks

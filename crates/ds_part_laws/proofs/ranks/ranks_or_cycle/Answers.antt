@@ -1,5 +1,0 @@
-use Rattle.ds_part_laws.proofs.RanksOrCycle.{ranks_or_cycle}
-use Rattle.ds_part_laws.proofs.ranks.ranks_or_cycle.Goals as goal
-
-pub returns : goal.returns
-returns c = ranks_or_cycle

@@ -1,5 +1,0 @@
-use Rattle.ds_part_laws.proofs.OnePeriod.{one_period}
-use Rattle.ds_part_laws.proofs.single_period.one_period.Goals as goal
-
-pub returns : goal.returns
-returns c = one_period

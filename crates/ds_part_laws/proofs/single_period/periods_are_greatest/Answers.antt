@@ -1,5 +1,0 @@
-use Rattle.ds_part_laws.proofs.OnePeriod.{periods_are_greatest}
-use Rattle.ds_part_laws.proofs.single_period.periods_are_greatest.Goals as goal
-
-pub returns : goal.returns
-returns c = periods_are_greatest

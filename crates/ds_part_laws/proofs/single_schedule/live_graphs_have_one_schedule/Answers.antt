@@ -1,5 +1,0 @@
-use Rattle.ds_part_laws.proofs.OneSchedule.{live_graphs_have_one_schedule}
-use Rattle.ds_part_laws.proofs.single_schedule.live_graphs_have_one_schedule.Goals as goal
-
-pub returns : goal.returns
-returns c = live_graphs_have_one_schedule

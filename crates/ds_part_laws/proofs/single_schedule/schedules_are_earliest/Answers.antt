@@ -1,5 +1,0 @@
-use Rattle.ds_part_laws.proofs.OneSchedule.{schedules_are_earliest}
-use Rattle.ds_part_laws.proofs.single_schedule.schedules_are_earliest.Goals as goal
-
-pub returns : goal.returns
-returns c = schedules_are_earliest

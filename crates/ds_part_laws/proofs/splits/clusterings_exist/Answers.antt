@@ -1,5 +1,0 @@
-use Rattle.ds_part_laws.proofs.Clusterings.{clusterings_exist}
-use Rattle.ds_part_laws.proofs.splits.clusterings_exist.Goals as goal
-
-pub returns : goal.returns
-returns c = clusterings_exist

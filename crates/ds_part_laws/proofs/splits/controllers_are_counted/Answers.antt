@@ -1,5 +1,0 @@
-use Rattle.ds_part_laws.proofs.ArcCount.{controllers_are_counted}
-use Rattle.ds_part_laws.proofs.splits.controllers_are_counted.Goals as goal
-
-pub returns : goal.returns
-returns c = controllers_are_counted

@@ -1,5 +1,0 @@
-use Rattle.ds_part_laws.proofs.GroupedClusterings.{grouped_clusterings_exist}
-use Rattle.ds_part_laws.proofs.splits.grouped_clusterings_exist.Goals as goal
-
-pub returns : goal.returns
-returns c = grouped_clusterings_exist

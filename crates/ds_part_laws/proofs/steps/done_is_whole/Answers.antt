@@ -1,5 +1,0 @@
-use Rattle.ds_part_laws.proofs.StepAnswers.{done_is_whole_lem}
-use Rattle.ds_part_laws.proofs.steps.done_is_whole.Goals as goal
-
-pub returns : goal.returns
-returns c = done_is_whole_lem

@@ -1,5 +1,0 @@
-use Rattle.ds_part_laws.proofs.ShownCounts.{shown_are_reached_lem}
-use Rattle.ds_part_laws.proofs.table_counts.shown_are_reached.Goals as goal
-
-pub returns : goal.returns
-returns c = shown_are_reached_lem

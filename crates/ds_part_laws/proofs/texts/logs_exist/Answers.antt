@@ -1,5 +1,0 @@
-use Rattle.ds_part_laws.proofs.LogsExist.{logs_exist}
-use Rattle.ds_part_laws.proofs.texts.logs_exist.Goals as goal
-
-pub returns : goal.returns
-returns c = logs_exist

@@ -1,5 +1,0 @@
-use Rattle.ds_part_laws.proofs.StateTextsExist.{state_texts_exist}
-use Rattle.ds_part_laws.proofs.texts.state_texts_exist.Goals as goal
-
-pub returns : goal.returns
-returns c = state_texts_exist

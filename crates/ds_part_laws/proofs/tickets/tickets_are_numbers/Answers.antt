@@ -1,5 +1,0 @@
-use Rattle.ds_part_laws.proofs.TicketNumbers.{tickets_are_numbers_lem}
-use Rattle.ds_part_laws.proofs.tickets.tickets_are_numbers.Goals as goal
-
-pub returns : goal.returns
-returns c = tickets_are_numbers_lem

@@ -1,5 +1,0 @@
-use Rattle.ds_part_laws.proofs.TicketsRise.{tickets_follow_lem}
-use Rattle.ds_part_laws.proofs.tickets.tickets_follow.Goals as goal
-
-pub returns : goal.returns
-returns c = tickets_follow_lem

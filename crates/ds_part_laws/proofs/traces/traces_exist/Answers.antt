@@ -1,5 +1,0 @@
-use Rattle.ds_part_laws.proofs.SomeTrace.{traces_exist}
-use Rattle.ds_part_laws.proofs.traces.traces_exist.Goals as goal
-
-pub returns : goal.returns
-returns c = traces_exist

@@ -1,5 +1,0 @@
-use Rattle.ds_part_laws.proofs.LeastSumsExist.{least_is_shown}
-use Rattle.ds_part_laws.proofs.walks.least_is_shown.Goals as goal
-
-pub returns : goal.returns
-returns c = least_is_shown

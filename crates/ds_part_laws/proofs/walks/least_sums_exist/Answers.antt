@@ -1,5 +1,0 @@
-use Rattle.ds_part_laws.proofs.LeastSumsExist.{least_sums_exist}
-use Rattle.ds_part_laws.proofs.walks.least_sums_exist.Goals as goal
-
-pub returns : goal.returns
-returns c = least_sums_exist

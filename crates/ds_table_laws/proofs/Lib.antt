@@ -1,0 +1,15 @@
+pub mod RunsAreKnown
+pub mod Traces
+pub mod TicketNumbers
+pub mod TicketsRise
+pub mod FlightIsEnabled
+pub mod ShownCounts
+pub mod StepAnswers
+pub mod PassFreeOrOut
+pub mod SomeTrace
+pub mod LegalListsExist
+pub mod LogsExist
+pub mod StateTextsExist
+pub mod RunTextsExist
+pub mod StoppedTextsExist
+pub mod ReplayTextsExist
