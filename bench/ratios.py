@@ -11,9 +11,9 @@ on the machine only adds; the exit status is 1 where the runs of a netlist write
 
 With `--base PROGRAM` it prints whole runs in place of turns: for each circuit the seconds of
 `clock` of that program, which is taken as 1, and how many times as long take `clock` of `--program`
-and its `run` by each number of `--jobs`, one and four where none are named. These runs write into
-/dev/null, so that no reader takes part; one run of each more, without a time, shows that all write
-the same bytes.
+and its `run` by each number of `--jobs`, one and four where none are named. With `--unread` these
+runs write into /dev/null, so that no reader takes part; one run of each more, without a time, shows
+that all write the same bytes.
 """
 
 import argparse
@@ -35,6 +35,11 @@ def seconds_of(words):
     begin = time.monotonic()
     text = subprocess.run(words, stdout=subprocess.PIPE, check=True).stdout
     return text, time.monotonic() - begin
+
+
+def seconds_read(words):
+    """The seconds by the clock of a command whose bytes are read by a pipe."""
+    return seconds_of(words)[1]
 
 
 def seconds_unread(words):
@@ -128,10 +133,11 @@ def whole_runs(given, folder):
         for kind, make in kinds_of(clusters, jobs):
             words[kind] = [os.path.abspath(given.program)] + make(files)
         texts = {seconds_of(words[kind])[0] for kind in words}
+        seconds = seconds_unread if given.unread else seconds_read
         times = {kind: [] for kind in words}
         for _ in range(given.times):
             for kind in words:
-                times[kind].append(seconds_unread(words[kind]))
+                times[kind].append(seconds(words[kind]))
         one = min(times["base"])
         cells = [name, "%.3f" % one]
         cells += ["%.2f" % (min(times[kind]) / one) for kind in words if kind != "base"]
@@ -159,6 +165,7 @@ def main():
     parser.add_argument("--jobs", type=int, nargs="+", help="workers")
     parser.add_argument("--program", default=workers.PROGRAM, help="the built desync")
     parser.add_argument("--base", help="a desync whose clock is 1, for whole runs")
+    parser.add_argument("--unread", action="store_true", help="write whole runs into /dev/null")
     given = parser.parse_args()
     if given.base:
         with tempfile.TemporaryDirectory() as folder:
