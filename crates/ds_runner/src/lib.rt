@@ -21,7 +21,7 @@
 //! it gave back grew by, `won` and `missed`, the takes that had the pass and those that found it
 //! out. `build` gives one turn with all permits, `split` and `join` pass permits on, `take` and
 //! `give` move a pass, and `close` has all passes back, in order. Nothing is promised of who takes
-//! what, or that a take ever wins.
+//! what, or that a take wins while another turn has a permit.
 #![tactic(auto)]
 
 mod budget;
