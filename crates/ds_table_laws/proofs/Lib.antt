@@ -1,5 +1,5 @@
 pub mod RunsAreKnown
-pub mod Traces
+pub mod KnownTraces
 pub mod TicketNumbers
 pub mod TicketsRise
 pub mod FlightIsEnabled
