@@ -1,26 +1,26 @@
--- What the flight of an opening changes in the history of its node.
-use Rattle.std.specs.Prelude.{◌≡◌, ◌+◌, ◌<◌, ◌≤◌, length, vec_len, vec_capacity}
+-- What the flight of an event asks and changes of the room for it.
+use Rattle.std.specs.Prelude.{◌≡◌, ◌+◌, ◌<◌, ◌≤◌, ℕ, length, vec_len, vec_capacity}
 use Rattle.ds_rule.specs.Run.{Run}
 use Rattle.ds_rule.specs.Words.{width}
 use Rattle.ds_rule.specs.Sound.{read_words}
-use Rattle.ds_fabric.specs.HistoryList.{new_row}
+use Rattle.ds_fabric.specs.HistoryList.{stride_of, room_of, end_of}
+use Rattle.ds_fabric.specs.declared.buffers.Buffers.{Buffers}
 use Rattle.ds_fabric.specs.declared.history.History.{History}
+use Rattle.ds_fabric.specs.declared.histories.Histories.{Histories}
 
--- only the turns and the rows read are other than before
-pub record HasOpened (g h : History) : Type 0 where
-  pub node : h.node ≡ g.node
-  pub fired : h.fired ≡ g.fired
-  pub stride : h.stride ≡ g.stride
-  pub turns_room : vec_capacity h.turns ≡ vec_capacity g.turns
-  pub from_room : vec_capacity h.from ≡ vec_capacity g.from
+-- as much room as before
+pub record HasSameRoom (a b : Buffers) : Type 0 where
+  pub from : vec_capacity b.from ≡ vec_capacity a.from
+  pub told : vec_capacity b.told ≡ vec_capacity a.told
 
--- there is room for one more row, and for the rows that are read
-pub record HasRoomFor (run : Run) (h : History) : Type 0 where
-  pub turns : vec_len h.turns + width run h.node ≤ vec_capacity h.turns
-  pub from : read_words run h.node (length run.edges) ≤ vec_capacity h.from
+-- there is room for the rows that the node reads, and for what a firing of it tells
+pub record HasRoomFor (run : Run) (node : ℕ) (b : Buffers) : Type 0 where
+  pub from : read_words run node (length run.edges) ≤ vec_capacity b.from
+  pub told : stride_of run node ≤ vec_capacity b.told
 
--- there is room for what the node's next event tells, its row and its ticket, and for the rows that
--- are read
-pub record HasRoomToFire (run : Run) (h : History) : Type 0 where
-  pub turns : vec_len h.turns + length (new_row run h.node h.fired) < vec_capacity h.turns
-  pub from : read_words run h.node (length run.edges) ≤ vec_capacity h.from
+-- there is room for what the node's next event tells, in its list too
+pub record HasRoomToFire (run : Run) (s : Histories) (h : History) : Type 0 where
+  pub stride : h.stride ≡ stride_of run h.node
+  pub inside : h.first + h.stride ≤ h.step
+  pub room : end_of run h ≤ room_of s h
+  pub buffers : HasRoomFor run h.node s.buffers

@@ -6,10 +6,14 @@ pub mod Into
 pub mod Looks
 pub mod Stepped
 pub mod HistoryList
+pub mod Flight
+pub mod Armed
 pub mod Noted
 pub mod Laid
-pub mod Flight
 pub mod Indexed
+pub mod Separated
+pub mod Joined
 pub mod Showing
+pub mod Begun
 pub mod Spread
 pub mod Unpacked

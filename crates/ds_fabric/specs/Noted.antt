@@ -1,26 +1,58 @@
--- A ticket more in the history of a node.
-use Rattle.std.specs.Prelude.{◌≡◌, ℕ, ◌+◌, ◌<◌, ◌++◌, ◌∷◌, [], List, vec_len, vec_capacity}
-use Rattle.ds_rule.specs.Run.{Run}
-use Rattle.ds_fabric.specs.HistoryList.{new_row}
+-- What a history keeps of the firing of its node.
+use Rattle.std.specs.Prelude.{◌≡◌, ◌≢◌, ℕ, ◌+◌, ◌<◌, ◌≤◌, ◌∷◌, ◌++◌, [], List, length, vec_len, vec_capacity}
+use Rattle.std.specs.Prelude.{slice_set}
+use mathlib.Core.Option.{some}
+use lib.ListN.{get_elem?}
+use Rattle.ds_rule.specs.Run.{Run, next, opens, turns}
+use Rattle.ds_rule.specs.Sound.{read_words}
+use Rattle.ds_rule.specs.Event.{fired_of, is_opening}
+use Rattle.ds_rule.specs.declared.event_role.EventRole.{EventRole}
 use Rattle.ds_fabric.specs.declared.history.History.{History}
+use Rattle.ds_fabric.specs.declared.histories.Histories.{Histories}
+use Rattle.ds_fabric.specs.HistoryList.{IsWritten, words_of, room_of, turn_of, offset_of}
+use Rattle.ds_fabric.specs.HistoryList.{start_of, end_of, new_row}
 
--- there is room for the ticket of the node's next event
-abbrev pub HasRoomToNote : History → Type 0
-HasRoomToNote h = vec_len h.turns < vec_capacity h.turns
+-- there is room for what the next event tells, whose role this is, in the list and in its buffer
+pub record HasRoomToNote (run : Run) (s : Histories) (at : ℕ) (role : EventRole) : Type 0 where
+  pub history : History
+  pub there : get_elem? s.nodes.items at ≡ some history
+  pub turns_is : fired_of role history.fired ≡ turn_of run history
+  pub opens_is : opens run (next run history.node history.fired) ≡ is_opening role
+  pub few : history.fired + 1 < 18446744073709551616
+  pub wide : 0 < history.stride
+  pub inside : history.first + history.stride ≤ history.step
+  pub fits : offset_of run history + (vec_len s.buffers.told + 1) ≤ history.stride
+  pub room : end_of run history ≤ room_of s history
+  pub buffer : vec_len s.buffers.told < vec_capacity s.buffers.told
 
--- the node's next event has the ticket, and these words stand before it; the room is as it was
-pub record HasTold (words : List ℕ) (g h : History) (ticket : ℕ) : Type 0 where
+-- the history has one firing more, and the words that its event told stand in its list
+pub record IsNoted (run : Run) (s t : Histories) (g h : History) (told : List ℕ) : Type 0 where
   pub node : h.node ≡ g.node
   pub fired : h.fired ≡ g.fired + 1
   pub stride : h.stride ≡ g.stride
-  pub turns : h.turns.items ≡ (g.turns.items ++ words) ++ ticket ∷ []
-  pub turns_room : vec_capacity h.turns ≡ vec_capacity g.turns
-  pub from_room : vec_capacity h.from ≡ vec_capacity g.from
+  pub first : h.first ≡ g.first
+  pub step : h.step ≡ g.step
+  pub room : room_of t h ≡ room_of s g
+  pub written : IsWritten (words_of s g) (words_of t h) (start_of run g) (end_of run g) told
 
--- it has the ticket alone
-abbrev pub HasNoted : History → History → ℕ → Type 0
-HasNoted = HasTold []
+-- of the histories one has noted its next event; the room for a firing is as it was
+pub record HasTold (run : Run) (s t : Histories) (at : ℕ) (told : List ℕ) : Type 0 where
+  pub old : History
+  pub new : History
+  pub there : get_elem? s.nodes.items at ≡ some old
+  pub nodes : t.nodes.items ≡ slice_set s.nodes.items at new
+  pub nodes_room : vec_capacity t.nodes ≡ vec_capacity s.nodes
+  pub places : t.places ≡ s.places
+  pub apart : t.apart ≡ s.apart
+  pub from_room : vec_capacity t.buffers.from ≡ vec_capacity s.buffers.from
+  pub told_room : vec_capacity t.buffers.told ≡ vec_capacity s.buffers.told
+  pub noted : IsNoted run s t old new told
 
--- it has the ticket, and before it a row where the event is an opening
-abbrev pub HasFired : Run → History → History → ℕ → Type 0
-HasFired run g = HasTold (new_row run g.node g.fired) g
+-- it has noted what stands in the buffer, and behind it the ticket
+abbrev pub HasNoted : Run → Histories → Histories → ℕ → ℕ → Type 0
+HasNoted run s t at ticket = HasTold run s t at (s.buffers.told.items ++ ticket ∷ [])
+
+-- it has noted the ticket, and before it a row where the event is an opening
+pub record HasFired (run : Run) (s t : Histories) (at ticket : ℕ) (h : History) : Type 0 where
+  pub told : HasTold run s t at (new_row run h.node h.fired ++ ticket ∷ [])
+  pub old_is : told.old ≡ h

@@ -1,20 +1,23 @@
 -- What a pass shows, and what it keeps in memory.
-use Rattle.std.specs.Prelude.{◌≡◌, ℕ, ◌+◌, ◌*◌, ◌<◌, ◌≤◌, List, [], length, true, vec_capacity}
+use Rattle.std.specs.Prelude.{◌≡◌, ◌≢◌, ◌⊎◌, ℕ, ◌+◌, ◌*◌, ◌<◌, ◌≤◌, List, [], length, true, false}
+use Rattle.std.specs.Prelude.{vec_capacity}
 use mathlib.Core.Option.{some}
 use lib.ListN.{get_elem?}
 use Rattle.atomic_table.specs.Table.{Me}
 use Rattle.atomic_table.specs.Seated.{TableId}
 use Rattle.ds_base.specs.Scratch.{Kept, Memory, Remembers}
 use Rattle.ds_rule.specs.Run.{Run, events, node_of, turns}
-use Rattle.ds_rule.specs.Sound.{IsSound, read_words}
+use Rattle.ds_rule.specs.Sound.{IsSound}
 use Rattle.ds_rule.specs.Log.{firings, Recorded}
 use Rattle.ds_rule.specs.Rule.{holds, tickets, seen, first_view}
 use Rattle.ds_rule.specs.Plays.{with_cut, without_cut, only_cut}
 use Rattle.ds_rule.specs.declared.view.View.{View}
 use Rattle.ds_fabric.specs.Base.{Base}
-use Rattle.ds_fabric.specs.HistoryList.{stride_of, turns_told}
+use Rattle.ds_fabric.specs.HistoryList.{stride_of, turns_told, StandsAt, words_of, room_of}
+use Rattle.ds_fabric.specs.Flight.{HasRoomFor}
 use Rattle.ds_fabric.specs.Indexed.{IsOneEach, IsIndexed}
 use Rattle.ds_fabric.specs.declared.history.History.{History}
+use Rattle.ds_fabric.specs.declared.histories.Histories.{Histories}
 
 -- what a pass shows
 pub record Showing : Type 0 where
@@ -82,40 +85,47 @@ pub record IsLeft (old : Showing) (node : ℕ) (p : Showing) : Type 0 where
   pub room : p.room ≡ old.room
   pub scratch : p.scratch ≡ old.scratch
 
--- the room of the history of a node
-pub record HasHistoryRoom (run : Run) (l : ℕ) (h : History) : Type 0 where
-  pub turns : run.limit * stride_of run l ≤ vec_capacity h.turns
-  pub from : read_words run l (length run.edges) ≤ vec_capacity h.from
+-- the words of two histories stand in two parts of each turn of a list
+abbrev pub AreBeside : History → History → Type 0
+AreBeside g h = (g.first + g.stride ≤ h.first) ⊎ (h.first + h.stride ≤ g.first)
 
--- the history of a node before it fired
-pub record IsBlank (run : Run) (l : ℕ) (h : History) : Type 0 where
+-- the words of each two of the histories do
+abbrev pub AreSideBySide : List History → Type 0
+AreSideBySide nodes = (i j : ℕ) (g h : History) → get_elem? nodes i ≡ some g
+    → get_elem? nodes j ≡ some h → i ≢ j → AreBeside g h
+
+-- the history of a node before it fired, in a list of so many words a turn
+pub record IsBlank (run : Run) (l step : ℕ) (h : History) : Type 0 where
   pub node : h.node ≡ l
   pub fired : h.fired ≡ 0
   pub stride : h.stride ≡ stride_of run l
-  pub turns : h.turns.items ≡ []
-  pub room : HasHistoryRoom run l h
+  pub inside : h.first + h.stride ≤ step
+  pub step_is : h.step ≡ step
 
--- the histories of the first n nodes in order, before they fired
-pub record Blank (run : Run) (n : ℕ) (items : List History) : Type 0 where
+-- the histories of the first n nodes in order, before they fired, in one list of so many words a
+-- turn
+pub record Blank (run : Run) (n step : ℕ) (items : List History) : Type 0 where
   pub long : length items ≡ n
-  pub each : (i : ℕ) (h : History) → get_elem? items i ≡ some h → IsBlank run i h
+  pub each : (i : ℕ) (h : History) → get_elem? items i ≡ some h → IsBlank run i step h
+  pub beside : AreSideBySide items
 
--- the history of a node that a pass holds: its firings, and turn by turn the rows of its openings
--- and the tickets of its events
-pub record Tells (v : View) (h : History) : Type 0 where
+-- the history of a node that a pass holds: its firings, and in a list with so much room turn by
+-- turn the rows of its openings and the tickets of its events
+pub record Tells (v : View) (h : History) (words : List ℕ) (room : ℕ) : Type 0 where
   pub has : holds v h.node ≡ true
   pub fired : h.fired ≡ seen v h.node
   pub stride : h.stride ≡ stride_of v.run h.node
-  pub turns : h.turns.items ≡ turns_told v.run (tickets v) h.node (seen v h.node)
-  pub room : HasHistoryRoom v.run h.node h
+  pub turns : StandsAt words h.first h.stride h.step
+      (turns_told v.run (tickets v) h.node (seen v h.node))
+  pub room : v.run.limit * h.step ≤ room
 
 -- each event that is held has a ticket for each firing
 abbrev pub IsCounted : View → Type 0
 IsCounted v = (e : ℕ) → holds v (node_of v.run e) ≡ true
     → turns v.run e (seen v (node_of v.run e)) ≡ length (tickets v e)
 
--- the memory of a pass, beside its view
-pub record Keeps (me : Me ℕ View) (nodes : List History) : Type 0 where
+-- the memory of a pass, beside its view; all words stand in one list only where it holds all nodes
+pub record Keeps (me : Me ℕ View) (s : Histories) : Type 0 where
   pub no_slot : me.1 ≡ []
   pub live : me.0.live ≡ true
   pub idle : me.0.phase ≡ 0
@@ -124,18 +134,22 @@ pub record Keeps (me : Me ℕ View) (nodes : List History) : Type 0 where
   pub seen_long : length me.0.seen ≡ me.0.run.nodes
   pub among : me.0.run.design_nodes ≤ me.0.run.nodes
   pub counts : IsCounted me.0
-  pub listed : (i : ℕ) (h : History) → get_elem? nodes i ≡ some h → Tells me.0 h
+  pub listed : (i : ℕ) (h : History) → get_elem? s.nodes.items i ≡ some h
+      → Tells me.0 h (words_of s h) (room_of s h)
   pub found : (l : ℕ) → holds me.0 l ≡ true → (i : ℕ) × (h : History)
-      × (get_elem? nodes i ≡ some h) × (h.node ≡ l)
-  pub distinct : IsOneEach nodes
+      × (get_elem? s.nodes.items i ≡ some h) × (h.node ≡ l)
+  pub distinct : IsOneEach s.nodes.items
+  pub beside : s.apart ≡ false → AreSideBySide s.nodes.items
+  pub all : s.apart ≡ false → (l : ℕ) → l < me.0.run.nodes → holds me.0 l ≡ true
 
 -- a pass: its memory, the places of its histories, and its room
-pub record IsPass (me : Me ℕ View) (room capacity : ℕ) (nodes : List History)
-    (places : List ℕ) : Type 0 where
-  pub keeps : Keeps me nodes
-  pub indexed : IsIndexed me.0.run.nodes room (length nodes) nodes places
-  pub roomy : room ≤ capacity
+pub record IsPass (me : Me ℕ View) (room : ℕ) (s : Histories) : Type 0 where
+  pub keeps : Keeps me s
+  pub indexed : IsIndexed me.0.run.nodes room (length s.nodes.items) s.nodes.items s.places.items
+  pub roomy : room ≤ vec_capacity s.nodes
   pub few : room < 4294967296
+  pub buffers : (i : ℕ) (h : History) → get_elem? s.nodes.items i ≡ some h
+      → HasRoomFor me.0.run h.node s.buffers
 
 -- what a record shows: what its pass showed, and how many firings there were
 pub record Recorder : Type 0 where
@@ -143,20 +157,21 @@ pub record Recorder : Type 0 where
   pub many : ℕ
 
 -- a record keeps the histories of all nodes, and its tickets are the places of one legal list
-pub record IsRecord (p : Showing) (nodes : List History) (places : List ℕ)
-    (design_nodes many : ℕ) : Type 0 where
-  pub keeps : Keeps (p.view, []) nodes
-  pub indexed : IsIndexed p.view.run.nodes p.room (length nodes) nodes places
+pub record IsRecord (p : Showing) (s : Histories) (design_nodes many : ℕ) : Type 0 where
+  pub keeps : Keeps (p.view, []) s
+  pub indexed : IsIndexed p.view.run.nodes p.room (length s.nodes.items) s.nodes.items
+      s.places.items
   pub all : (l : ℕ) → l < p.view.run.nodes → holds p.view l ≡ true
   pub sound : IsSound p.view.run
   pub design_nodes_is : design_nodes ≡ p.view.run.design_nodes
   pub recorded : Recorded p.view.run (tickets p.view) many
 
--- the history of the node, out of a record: it has a ticket for each firing, and no event of it
--- fired more often than the limit says
-pub record IsTold (v : View) (node : ℕ) (h : History) : Type 0 where
+-- the history of the node, out of a record, with the list of its words: it has a ticket for each
+-- firing, and no event of it fired more often than the limit says
+pub record IsTold (v : View) (node : ℕ) (h : History) (words : List ℕ) : Type 0 where
   pub node_is : h.node ≡ node
-  pub tells : Tells v h
+  pub room : ℕ
+  pub tells : Tells v h words room
   pub counts : IsCounted v
   pub sound : IsSound v.run
   pub most : (e : ℕ) → node_of v.run e ≡ node → length (tickets v e) ≤ v.run.limit

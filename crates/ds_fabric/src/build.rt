@@ -1,18 +1,23 @@
-//! How a table begins: its words, each node's first row among them, and a history for each node
-//! with room for all its firings.
-ghost use Rattle.std.specs.Prelude.{ℕ, ◌≡◌, ◌<◌, ◌≤◌, ◌+◌, ◌*◌, ◌++◌, length, slice_index};
-ghost use Rattle.std.specs.Prelude.{replicate};
+//! How a table begins: its words, each node's first row among them, and a history for each node, with
+//! one list that has room for all firings.
+ghost use Rattle.std.specs.Prelude.{ℕ, ◌≡◌, ◌<◌, ◌≤◌, ◌+◌, ◌*◌, ◌++◌, length, replicate};
 ghost use Rattle.std.specs.Prelude.{vec_capacity, IfOk, OnOk};
 ghost use Rattle.ds_rule.specs.Sound.{IsSound, read_words};
 ghost use Rattle.ds_rule.specs.Words.{width};
 ghost use Rattle.ds_rule.specs.Rows.{row};
 ghost use Rattle.ds_fabric.specs.Laid.{LaidBelow};
-ghost use Rattle.ds_fabric.specs.Showing.{Blank, IsBlank};
+ghost use Rattle.ds_fabric.specs.Begun.{AreBegun, IsRoomFor, first_of};
+ghost use Rattle.ds_fabric.specs.Flight.{HasRoomFor};
 ghost use Rattle.ds_fabric.specs.HistoryList.{stride_of};
+ghost use Rattle.ds_fabric.specs.Ranged.{AreReads};
+ghost use Rattle.ds_fabric.specs.Showing.{Blank};
 
+use crate::buffers::Buffers;
 use crate::compute::Compute;
+use crate::histories::Histories;
 use crate::history::History;
 use crate::index::zeros;
+use crate::places::{alone, numbered};
 use ds_base::{LatchId, OutOfMemory};
 use ds_rule::{RunValues, TableRun};
 use std::alloc::Global;
@@ -89,29 +94,125 @@ fn pad(words: &mut Vec<u64>, count: usize) -> Result<(), OutOfMemory>
     Ok(())
 }
 
-/// The histories of all nodes.
+/// The histories of all nodes, whose words stand in one list, turn by turn.
 pub fn histories<V: RunValues>(
     alloc: Global,
     run: &TableRun<V>,
-) -> Result<Vec<History>, OutOfMemory>
-    requires { IsSound run.now }
-    ensures blank { IfOk result (λ v. Blank run.now run.now.nodes v.items) }
-    ensures room { IfOk result (λ v. run.now.nodes ≤ vec_capacity v) }
+    reads: &[usize],
+) -> Result<Histories, OutOfMemory>
+    requires sound { IsSound run.now }
+    requires reads { AreReads run.now reads.now }
+    ensures { IfOk result (AreBegun run.now) }
 {
-    let reads = reads(alloc, run)?;
-    let mut items = Vec::with_capacity(alloc, run.nodes())?;
-    for node in 0..run.nodes() {
-        items.push(history_of(alloc, run, node, reads[node])?)?;
-    }
-    Ok(items)
+    let step = step_of(run);
+    let Some(words) = (run.limit() as usize).checked_mul(step) else {
+        return Err(OutOfMemory);
+    };
+    let together = Vec::with_capacity(alloc, words)?;
+    let nodes = blank_nodes(alloc, run, step)?;
+    let places = numbered(alloc, run.nodes())?;
+    let buffers = buffers(alloc, run, reads)?;
+    Ok(Histories {
+        nodes,
+        places,
+        apart: false,
+        together,
+        buffers,
+    })
 }
 
-// How many words each node reads at most.
-fn reads<V: RunValues>(alloc: Global, run: &TableRun<V>) -> Result<Vec<usize>, OutOfMemory>
+// How many words a turn of all nodes takes.
+fn step_of<V: RunValues>(run: &TableRun<V>) -> usize
     requires { IsSound run.now }
-    ensures { IfOk result (λ v. (length v.items ≡ run.now.nodes) × ((l : ℕ)
-        → l < run.now.nodes
-        → slice_index v.items l ≡ read_words run.now l (length run.now.edges))) }
+    ensures { result ≡ first_of run.now run.now.nodes }
+{
+    let mut step = 0;
+    for node in 0..run.nodes() {
+        step += stride_of(run, node);
+    }
+    step
+}
+
+// The histories of all nodes before they fired, in one list of so many words a turn.
+fn blank_nodes<V: RunValues>(
+    alloc: Global,
+    run: &TableRun<V>,
+    step: usize,
+) -> Result<Vec<History>, OutOfMemory>
+    requires sound { IsSound run.now }
+    requires step { step ≡ first_of run.now run.now.nodes }
+    ensures blank { IfOk result (λ v. Blank run.now run.now.nodes step v.items) }
+    ensures room { IfOk result (λ v. run.now.nodes ≤ vec_capacity v) }
+{
+    let mut first = 0;
+    let mut nodes = Vec::with_capacity(alloc, run.nodes())?;
+    for node in 0..run.nodes() {
+        let stride = stride_of(run, node);
+        nodes.push(History {
+            node,
+            fired: 0,
+            stride,
+            first,
+            step,
+            own: Vec::new(alloc),
+        })?;
+        first += stride;
+    }
+    Ok(nodes)
+}
+
+// Room for a firing of any node.
+fn buffers<V: RunValues>(
+    alloc: Global,
+    run: &TableRun<V>,
+    reads: &[usize],
+) -> Result<Buffers, OutOfMemory>
+    requires sound { IsSound run.now }
+    requires reads { AreReads run.now reads.now }
+    ensures { IfOk result (λ b. (l : ℕ) → l < run.now.nodes → HasRoomFor run.now l b) }
+{
+    let mut most = 0;
+    let mut widest = 0;
+    for node in 0..run.nodes() {
+        most = reads[node].max(most);
+        widest = stride_of(run, node).max(widest);
+    }
+    let from = Vec::with_capacity(alloc, most)?;
+    let told = Vec::with_capacity(alloc, widest)?;
+    Ok(Buffers { from, told })
+}
+
+/// No history yet, and room for so many. The first will be that of the node, which reads so many
+/// words.
+pub fn room_for<V: RunValues>(
+    alloc: Global,
+    run: &TableRun<V>,
+    node: usize,
+    reads: usize,
+    room: u32,
+) -> Result<Histories, OutOfMemory>
+    requires sound { IsSound run.now }
+    requires near { (node < run.now.nodes) × (0 < room) }
+    requires reads { reads ≡ read_words run.now node (length run.now.edges) }
+    ensures { IfOk result (IsRoomFor run.now node room) }
+{
+    let nodes = Vec::with_capacity(alloc, room as usize)?;
+    let places = alone(alloc, run.nodes(), node, room)?;
+    let from = Vec::with_capacity(alloc, reads)?;
+    let told = Vec::with_capacity(alloc, stride_of(run, node))?;
+    Ok(Histories {
+        nodes,
+        places,
+        apart: true,
+        together: Vec::new(alloc),
+        buffers: Buffers { from, told },
+    })
+}
+
+/// How many words each node reads at most.
+pub fn reads<V: RunValues>(alloc: Global, run: &TableRun<V>) -> Result<Vec<usize>, OutOfMemory>
+    requires { IsSound run.now }
+    ensures { IfOk result (λ v. AreReads run.now v.items) }
 {
     let mut totals = zeros(alloc, run.nodes())?;
     let edges = run.edges();
@@ -120,30 +221,6 @@ fn reads<V: RunValues>(alloc: Global, run: &TableRun<V>) -> Result<Vec<usize>, O
         totals[edge.consumer.index()] += 1 + run.width(edge.producer.index());
     }
     Ok(totals)
-}
-
-// A history with room for all firings of its node.
-fn history_of<V: RunValues>(
-    alloc: Global,
-    run: &TableRun<V>,
-    node: usize,
-    reads: usize,
-) -> Result<History, OutOfMemory>
-    requires sound { IsSound run.now }
-    requires near { node < run.now.nodes }
-    requires reads { reads ≡ read_words run.now node (length run.now.edges) }
-    ensures { IfOk result (λ h. IsBlank run.now node h) }
-{
-    let stride = stride_of(run, node);
-    let turns = Vec::with_capacity(alloc, run.limit() as usize * stride)?;
-    let from = Vec::with_capacity(alloc, reads)?;
-    Ok(History {
-        node,
-        fired: 0,
-        stride,
-        turns,
-        from,
-    })
 }
 
 // How many words a turn of the node takes: of a latch a row and two tickets.

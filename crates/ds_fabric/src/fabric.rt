@@ -8,16 +8,17 @@ ghost use Rattle.ds_rule.specs.Sound.{IsSound};
 ghost use Rattle.ds_rule.specs.Log.{Recorded};
 ghost use Rattle.ds_rule.specs.Rule.{holds, tickets};
 ghost use Rattle.ds_rule.specs.Plays.{taken_in};
+ghost use Rattle.ds_fabric.specs.Ranged.{AreReads};
 ghost use Rattle.ds_fabric.specs.Stepped.{Stepped, FiresIfEnabled};
 ghost use Rattle.ds_fabric.specs.Showing.{Belongs, IsFabricBegun, IsCounted, IsDealt, IsLeft, IsOf};
 ghost use Rattle.ds_fabric.specs.Showing.{Stays, IsStood, no_scratch};
 
-use crate::build::{histories, lay};
+use crate::build::{histories, lay, reads, room_for};
 use crate::compute::Compute;
 use crate::incoming::Incoming;
 use crate::index::Index;
 use crate::pass::Pass;
-use crate::places::{alone, find, note_from, numbered, take_out};
+use crate::places::{find, take_out};
 use crate::record::Record;
 use crate::seat_steps::{close_table, deal_seat, gather_seats};
 use crate::step::Step;
@@ -67,15 +68,14 @@ impl<'a, V: RunValues, C: Compute> Fabric<'a, V, C> {
         requires openings { C.run openings.now ≡ run.now }
         ensures { IfOk result (λ r. IsFabricBegun run.now r.0 r.1) }
     {
-        let nodes = histories(alloc, run)?;
-        let places = numbered(alloc, run.nodes())?;
+        let reads = reads(alloc, run)?;
+        let histories = histories(alloc, run, reads.as_slice())?;
         let scratch = openings.scratch(alloc)?;
-        let (fabric, seat) = Fabric::stand(alloc, run, openings)?;
+        let (fabric, seat) = Fabric::stand(alloc, run, openings, reads)?;
         let room = run.nodes() as u32;
         let pass = Pass {
             seat,
-            nodes,
-            places,
+            histories,
             scratch,
             room,
         };
@@ -87,14 +87,16 @@ impl<'a, V: RunValues, C: Compute> Fabric<'a, V, C> {
         alloc: Global,
         run: &'a TableRun<V>,
         openings: &'a C,
+        reads: Vec<usize>,
     ) -> Result<(Fabric<'a, V, C>, Seat<u8, View>), OutOfMemory>
         requires sound { IsSound run.now }
         requires openings { C.run openings.now ≡ run.now }
+        requires reads { AreReads run.now reads.items }
         ensures { IfOk result (λ r. IsStood run.now (C.memory openings.now) r.0 r.1.table_id
             r.1.me) }
     {
         let (words, starts) = lay(alloc, run, openings)?;
-        let index = Index::of(alloc, run, starts)?;
+        let index = Index::of(alloc, run, starts, reads)?;
         let incoming = Incoming::of(alloc, run)?;
         let (table, seat) = Table::of_words(alloc, words.as_slice(), run)?;
         let fabric = Fabric {
@@ -119,8 +121,7 @@ impl<'a, V: RunValues, C: Compute> Fabric<'a, V, C> {
     {
         self.step_node(
             &mut pass.seat,
-            &mut pass.nodes,
-            &pass.places,
+            &mut pass.histories,
             node,
             &mut pass.scratch,
         )
@@ -186,17 +187,21 @@ impl<'a, V: RunValues, C: Compute> Fabric<'a, V, C> {
         ensures same { OnErr result (pass.new ≡ pass.old) }
     {
         let number = node.index();
-        let held = pass.nodes.as_slice();
-        let at = find(held, pass.places.as_slice(), number);
-        let mut nodes = Vec::with_capacity(alloc, room as usize)?;
-        let places = alone(alloc, self.run.nodes(), number, room)?;
+        let reads = self.index.reads[number];
+        let mut histories = room_for(alloc, self.run, number, reads, room)?;
+        pass.histories.separate(alloc, self.run.limit() as usize)?;
+        let held = pass.histories.nodes.as_slice();
+        let at = find(held, pass.histories.places.as_slice(), number);
         let seat = deal_seat(&self.table.shared, self.run, &mut pass.seat, number);
-        let history = take_out(&mut pass.nodes, &mut pass.places, at);
-        nodes.push_reserved(history);
+        let history = take_out(
+            &mut pass.histories.nodes,
+            &mut pass.histories.places,
+            at,
+        );
+        histories.nodes.push_reserved(history);
         Ok(Pass {
             seat,
-            nodes,
-            places,
+            histories,
             scratch,
             room,
         })
@@ -215,18 +220,12 @@ impl<'a, V: RunValues, C: Compute> Fabric<'a, V, C> {
     {
         let Pass {
             seat,
-            mut nodes,
-            places: _,
+            histories,
             scratch: _,
             room: _,
         } = other;
         gather_seats(&self.table.shared, self.run, &mut pass.seat, seat);
-        let first = pass.nodes.len();
-        let Ok(()) = pass.nodes.append(&mut nodes) else {
-            unreachable!()
-        };
-        nodes.destroy_empty();
-        note_from(pass.nodes.as_slice(), &mut pass.places, first);
+        pass.histories.take_in(histories);
     }
 
     /// Ends the run. The pass holds all nodes.
@@ -248,15 +247,13 @@ impl<'a, V: RunValues, C: Compute> Fabric<'a, V, C> {
         } = self;
         let Pass {
             seat,
-            nodes,
-            places,
+            histories,
             scratch: _,
             room: _,
         } = pass;
         let many = close_table(table, run, seat);
         Record {
-            nodes,
-            places,
+            histories,
             design_nodes: run.design_nodes(),
             many,
             shown,

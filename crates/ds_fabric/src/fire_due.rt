@@ -1,5 +1,5 @@
 //! The firing of an event that is known to be enabled: no arc is looked at.
-ghost use Rattle.std.specs.Prelude.{ℕ, ◌≡◌, true, length, vec_capacity};
+ghost use Rattle.std.specs.Prelude.{ℕ, ◌≡◌, true, vec_len};
 ghost use Rattle.ds_base.specs.Scratch.{Remembers};
 ghost use Rattle.ds_rule.specs.Run.{next, IsEnabledInRun};
 ghost use Rattle.ds_rule.specs.Rule.{holds, seen};
@@ -10,7 +10,7 @@ use crate::compute::Compute;
 use crate::context::Context;
 use crate::fabric::Fabric;
 use crate::flight::fire_enabled;
-use crate::history::History;
+use crate::histories::Histories;
 use crate::pass::Pass;
 use crate::places::find;
 use atomic_table::Seat;
@@ -31,8 +31,7 @@ impl<'a, V: RunValues, C: Compute> Fabric<'a, V, C> {
     {
         self.fire_node(
             &mut pass.seat,
-            &mut pass.nodes,
-            &pass.places,
+            &mut pass.histories,
             node,
             &mut pass.scratch,
         )
@@ -42,15 +41,13 @@ impl<'a, V: RunValues, C: Compute> Fabric<'a, V, C> {
     fn fire_node(
         &self,
         seat: &mut Seat<u8, View>,
-        nodes: &mut Vec<History>,
-        places: &Vec<usize>,
+        histories: &mut Histories,
         node: LatchId,
         scratch: &mut Scratch,
     ) -> u64
         requires table { (seat.old.table_id ≡ self.now.table_id)
             × (seat.old.me.0.run ≡ self.now.run) }
-        requires pass { (room : ℕ) × IsPass seat.old.me room (vec_capacity nodes.old)
-            nodes.old.items places.now.items }
+        requires pass { (room : ℕ) × IsPass seat.old.me room histories.old }
         requires held { holds seat.old.me.0 node ≡ true }
         requires remembers { Remembers self.now.memory scratch.old }
         requires due { IsEnabledInRun self.now.run (seen seat.old.me.0)
@@ -59,16 +56,15 @@ impl<'a, V: RunValues, C: Compute> Fabric<'a, V, C> {
         ensures same { (seat.new.table_id ≡ seat.old.table_id)
             × (seat.new.me.0.run ≡ seat.old.me.0.run)
             × (seat.new.me.0.holds ≡ seat.old.me.0.holds)
-            × (length nodes.new.items ≡ length nodes.old.items) }
+            × (vec_len histories.new.nodes ≡ vec_len histories.old.nodes) }
         ensures remembers { Remembers self.now.memory scratch.new }
         ensures fires { FiresWith self.now.run seat.old.me.0 seat.new.me.0 node result }
-        ensures pass { (room : ℕ) → IsPass seat.old.me room (vec_capacity nodes.old)
-            nodes.old.items places.now.items
-            → IsPass seat.new.me room (vec_capacity nodes.new) nodes.new.items places.now.items }
+        ensures pass { (room : ℕ) → IsPass seat.old.me room histories.old
+            → IsPass seat.new.me room histories.new }
     {
         let number = node.index();
-        let held = nodes.as_slice();
-        let at = find(held, places.as_slice(), number);
+        let nodes = histories.nodes.as_slice();
+        let at = find(nodes, histories.places.as_slice(), number);
         let context = Context {
             board: &self.table.shared,
             run: self.run,
@@ -76,6 +72,6 @@ impl<'a, V: RunValues, C: Compute> Fabric<'a, V, C> {
             incoming: &self.incoming,
             index: &self.index,
         };
-        fire_enabled(&context, seat, &mut nodes[at], scratch)
+        fire_enabled(&context, seat, histories, at, scratch)
     }
 }

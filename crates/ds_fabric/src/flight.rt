@@ -1,7 +1,7 @@
 //! The firing of one event. Unless it is known to be enabled, its sources are looked at first, and
 //! it fires only if they show enough. Its node departs on what the rule calls a flight: an opening
 //! reads rows and writes the new one; of each event a ticket is drawn and the count is published.
-ghost use Rattle.std.specs.Prelude.{ℕ, List, ◌≡◌, ◌<◌, ◌≤◌, ◌+◌, ◌++◌, true, length, slice_set};
+ghost use Rattle.std.specs.Prelude.{ℕ, ◌≡◌, ◌<◌, ◌≤◌, ◌+◌, [], true, vec_len};
 ghost use mathlib.Core.Option.{some};
 ghost use lib.ListN.{get_elem?};
 ghost use Rattle.ds_base.specs.Scratch.{Remembers};
@@ -14,46 +14,54 @@ ghost use Rattle.ds_fabric.specs.Base.{IsAway, IsInFlight, HasWritten};
 ghost use Rattle.ds_fabric.specs.HistoryList.{new_row};
 ghost use Rattle.ds_fabric.specs.Noted.{HasFired};
 ghost use Rattle.ds_fabric.specs.Into.{AreInto};
-ghost use Rattle.ds_fabric.specs.Showing.{Keeps};
+ghost use Rattle.ds_fabric.specs.Indexed.{IsHistoryAt};
+ghost use Rattle.ds_fabric.specs.Armed.{IsArmed};
+ghost use Rattle.ds_fabric.specs.Showing.{IsPass};
 ghost use Rattle.ds_fabric.specs.Stepped.{FiresWith, Stepped};
 ghost use Rattle.ds_fabric.specs.declared.history.History.{History};
-ghost use Rattle.ds_fabric.specs.Flight.{HasOpened, HasRoomFor, HasRoomToFire};
+ghost use Rattle.ds_fabric.specs.Flight.{HasRoomFor, HasSameRoom};
 
+use crate::buffers::Buffers;
 use crate::compute::Compute;
 use crate::context::Context;
 use crate::counts::survey;
+use crate::histories::Histories;
 use crate::history::History;
 use crate::learnt::Learnt;
+use crate::opening::Opening;
 use crate::rows::{read_rows, write_row};
 use crate::step::Step;
 use atomic_table::Seat;
 use ds_base::{ArcId, EventId, LatchId, Scratch};
-use ds_rule::{Depart, Draw, EventRole, Publish, RunValues, View};
+use ds_rule::{Depart, Draw, EventRole, NodeEvent, Publish, RunValues, View};
 
-/// Fires the next event of the history's node, if what its sources show is enough.
+/// Fires the next event of the node of history number `at`, if what its sources show is enough.
 pub fn fire_if_enabled<V: RunValues, C: Compute>(
     context: &Context<V, C>,
     seat: &mut Seat<u8, View>,
-    history: &mut History,
+    histories: &mut Histories,
+    at: usize,
     scratch: &mut Scratch,
 ) -> Step
     requires table { seat.old.table_id ≡ context.now.board.now.table_id }
     requires incoming { AreInto context.now.run.now context.now.incoming.now }
     requires remembers { Remembers (C.memory context.now.openings.now) scratch.old }
     requires run { seat.old.me.0.run ≡ context.now.run.now }
-    requires keeps { (nodes : List History) × (i : ℕ) × Keeps seat.old.me nodes
-        × (get_elem? nodes i ≡ some history.old) }
+    requires pass { (room : ℕ) × IsPass seat.old.me room histories.old }
+    requires there { (node : ℕ) × IsHistoryAt histories.old.nodes.items at node }
 
     ensures table { seat.new.table_id ≡ seat.old.table_id }
-    ensures step { Stepped context.now.run.now seat.old.me.0 history.old.node result seat.new.me.0 }
-    ensures keeps { (nodes : List History) (i : ℕ) → Keeps seat.old.me nodes
-        → get_elem? nodes i ≡ some history.old → Keeps seat.new.me (slice_set nodes i history.new) }
-    ensures node { history.new.node ≡ history.old.node }
+    ensures step { (node : ℕ) → IsHistoryAt histories.old.nodes.items at node
+        → Stepped context.now.run.now seat.old.me.0 node result seat.new.me.0 }
+    ensures pass { (room : ℕ) → IsPass seat.old.me room histories.old
+        → IsPass seat.new.me room histories.new }
+    ensures many { vec_len histories.new.nodes ≡ vec_len histories.old.nodes }
     ensures same { (seat.new.me.0.run ≡ seat.old.me.0.run)
         × (seat.new.me.0.holds ≡ seat.old.me.0.holds) }
     ensures remembers { Remembers (C.memory context.now.openings.now) scratch.new }
 {
     let run = context.run;
+    let history = &histories.nodes[at];
     let fired = history.fired;
     let event = run.next(history.node, fired);
     let before = run.turns(event, fired);
@@ -65,7 +73,7 @@ pub fn fire_if_enabled<V: RunValues, C: Compute>(
         let arc = ArcId::new(arc as u32);
         return Step::NotYet { arc, seen };
     }
-    let ticket = fire(context, seat, history, scratch);
+    let ticket = fire(context, seat, histories, at, scratch);
     let event = EventId::new(event as u32);
     Step::Fired {
         event,
@@ -74,67 +82,68 @@ pub fn fire_if_enabled<V: RunValues, C: Compute>(
     }
 }
 
-/// Fires the next event of the history's node, which is enabled at what was seen: its sources are
-/// not looked at.
+/// Fires the next event of the node of history number `at`, which is enabled at what was seen: its
+/// sources are not looked at.
 pub fn fire_enabled<V: RunValues, C: Compute>(
     context: &Context<V, C>,
     seat: &mut Seat<u8, View>,
-    history: &mut History,
+    histories: &mut Histories,
+    at: usize,
     scratch: &mut Scratch,
 ) -> u64
     requires table { seat.old.table_id ≡ context.now.board.now.table_id }
     requires remembers { Remembers (C.memory context.now.openings.now) scratch.old }
     requires run { seat.old.me.0.run ≡ context.now.run.now }
-    requires keeps { (nodes : List History) × (i : ℕ) × Keeps seat.old.me nodes
-        × (get_elem? nodes i ≡ some history.old) }
-    requires enabled { IsEnabledInRun context.now.run.now (seen seat.old.me.0)
-        (next context.now.run.now history.old.node (seen seat.old.me.0 history.old.node)) }
+    requires pass { (room : ℕ) × IsPass seat.old.me room histories.old }
+    requires enabled { (node : ℕ) × IsHistoryAt histories.old.nodes.items at node
+        × IsEnabledInRun context.now.run.now (seen seat.old.me.0)
+        (next context.now.run.now node (seen seat.old.me.0 node)) }
 
     ensures table { seat.new.table_id ≡ seat.old.table_id }
-    ensures fires { FiresWith context.now.run.now seat.old.me.0 seat.new.me.0 history.old.node
-        result }
-    ensures keeps { (nodes : List History) (i : ℕ) → Keeps seat.old.me nodes
-        → get_elem? nodes i ≡ some history.old → Keeps seat.new.me (slice_set nodes i history.new) }
-    ensures node { history.new.node ≡ history.old.node }
+    ensures fires { (node : ℕ) → IsHistoryAt histories.old.nodes.items at node
+        → FiresWith context.now.run.now seat.old.me.0 seat.new.me.0 node result }
+    ensures pass { (room : ℕ) → IsPass seat.old.me room histories.old
+        → IsPass seat.new.me room histories.new }
+    ensures many { vec_len histories.new.nodes ≡ vec_len histories.old.nodes }
     ensures same { (seat.new.me.0.run ≡ seat.old.me.0.run)
         × (seat.new.me.0.holds ≡ seat.old.me.0.holds) }
     ensures remembers { Remembers (C.memory context.now.openings.now) scratch.new }
 {
-    fire(context, seat, history, scratch)
+    fire(context, seat, histories, at, scratch)
 }
 
-// Fires the next event of the node: what was seen is enough for it.
+// Fires the next event of the node of history number `at`: what was seen is enough for it.
 fn fire<V: RunValues, C: Compute>(
     context: &Context<V, C>,
     seat: &mut Seat<u8, View>,
-    history: &mut History,
+    histories: &mut Histories,
+    at: usize,
     scratch: &mut Scratch,
 ) -> u64
     requires table { seat.old.table_id ≡ context.now.board.now.table_id }
     requires remembers { Remembers (C.memory context.now.openings.now) scratch.old }
-    requires idle { (seat.old.me.0.live ≡ true) × (seat.old.me.0.phase ≡ 0)
-        × (seat.old.me.0.run ≡ context.now.run.now) }
-    requires held { (holds seat.old.me.0 history.old.node ≡ true)
-        × (history.old.node < context.now.run.now.nodes)
-        × (history.old.fired ≡ seen seat.old.me.0 history.old.node) }
-    requires ready { IsEnabledInRun context.now.run.now (seen seat.old.me.0)
-        (next context.now.run.now history.old.node history.old.fired) }
-    requires room { HasRoomToFire context.now.run.now history.old }
+    requires armed { (h : History)
+        × IsArmed context.now.run.now seat.old.me.0 histories.old at h }
 
     ensures table { (seat.new.table_id ≡ seat.old.table_id) × (seat.new.id ≡ seat.old.id) }
-    ensures me { seat.new.me
+    ensures me { (h : History) → get_elem? histories.old.nodes.items at ≡ some h
+        → seat.new.me
         ≡ (
-          after_publish (after_draw (after_depart seat.old.me.0 history.old.node) result),
+          after_publish (after_draw (after_depart seat.old.me.0 h.node) result),
           seat.old.me.1,
         ) }
     ensures fresh { seat.old.me.0.drawn ≤ result }
-    ensures noted { HasFired context.now.run.now history.old history.new result }
+    ensures noted { (h : History) → get_elem? histories.old.nodes.items at ≡ some h
+        → HasFired context.now.run.now histories.old histories.new at result h }
     ensures remembers { Remembers (C.memory context.now.openings.now) scratch.new }
 {
+    let history = &histories.nodes[at];
     depart(context, seat, history);
-    prepare(context, seat, history, scratch);
+    prepare(context, seat, history, &mut histories.buffers, scratch);
     let ticket = publish(context, seat, history);
-    history.note(ticket);
+    let nodes = context.run.design_nodes();
+    let event = NodeEvent::next(history.node, history.fired, nodes);
+    histories.note(at, event.role, ticket);
     ticket
 }
 
@@ -190,31 +199,35 @@ fn publish<V: RunValues, C: Compute>(
 fn prepare<V: RunValues, C: Compute>(
     context: &Context<V, C>,
     seat: &mut Seat<u8, View>,
-    history: &mut History,
+    history: &History,
+    buffers: &mut Buffers,
     scratch: &mut Scratch,
 )
     requires table { seat.old.table_id ≡ context.now.board.now.table_id }
     requires remembers { Remembers (C.memory context.now.openings.now) scratch.old }
-    requires flight { IsInFlight context.now.run.now seat.old.me.0 history.old.node
-        history.old.fired }
+    requires flight { IsInFlight context.now.run.now seat.old.me.0 history.now.node
+        history.now.fired }
     requires unwritten { seat.old.me.0.written ≡ 0 }
-    requires room { HasRoomToFire context.now.run.now history.old }
+    requires room { HasRoomFor context.now.run.now history.now.node buffers.old }
 
     ensures seat { (seat.new.table_id ≡ seat.old.table_id) × (seat.new.id ≡ seat.old.id) }
     ensures me { (n : ℕ) × (seat.new.me ≡ (record seat.old.me.0 { written = n }, seat.old.me.1)) }
-    ensures flight { IsInFlight context.now.run.now seat.new.me.0 history.new.node
-        history.new.fired }
-    ensures written { HasWritten context.now.run.now seat.new.me.0 history.new.node
-        history.new.fired }
-    ensures turns { history.new.turns.items
-        ≡ history.old.turns.items
-        ++ new_row context.now.run.now history.old.node history.old.fired }
-    ensures same { HasOpened history.old history.new }
+    ensures flight { IsInFlight context.now.run.now seat.new.me.0 history.now.node
+        history.now.fired }
+    ensures written { HasWritten context.now.run.now seat.new.me.0 history.now.node
+        history.now.fired }
+    ensures told { buffers.new.told.items
+        ≡ new_row context.now.run.now history.now.node history.now.fired }
+    ensures room { HasSameRoom buffers.old buffers.new }
     ensures remembers { Remembers (C.memory context.now.openings.now) scratch.new }
 {
+    buffers.told.clear();
     if context.run.opens_next(history.node, history.fired) {
-        let turn = EventRole::Opening.turns(history.fired) + 1;
-        open_row(context, seat, history, scratch, turn);
+        let opening = Opening {
+            node: history.node,
+            turn: EventRole::Opening.turns(history.fired) + 1,
+        };
+        open_row(context, seat, opening, buffers, scratch);
     }
 }
 
@@ -222,45 +235,43 @@ fn prepare<V: RunValues, C: Compute>(
 fn open_row<V: RunValues, C: Compute>(
     context: &Context<V, C>,
     seat: &mut Seat<u8, View>,
-    history: &mut History,
+    opening: Opening,
+    buffers: &mut Buffers,
     scratch: &mut Scratch,
-    turn: u64,
 )
     requires table { seat.old.table_id ≡ context.now.board.now.table_id }
     requires remembers { Remembers (C.memory context.now.openings.now) scratch.old }
-    requires flight { IsOpening context.now.run.now seat.old.me.0 history.old.node turn
-        × IsAway context.now.run.now seat.old.me.0 history.old.node }
-    requires within { (history.old.node < context.now.run.now.design_nodes)
-        × (turn ≤ context.now.run.now.limit) }
-    requires room { HasRoomFor context.now.run.now history.old }
+    requires flight { IsOpening context.now.run.now seat.old.me.0 opening.node opening.turn
+        × IsAway context.now.run.now seat.old.me.0 opening.node }
+    requires within { (opening.node < context.now.run.now.design_nodes)
+        × (opening.turn ≤ context.now.run.now.limit) }
+    requires room { HasRoomFor context.now.run.now opening.node buffers.old }
+    requires empty { buffers.old.told.items ≡ [] }
 
     ensures seat { (seat.new.table_id ≡ seat.old.table_id) × (seat.new.id ≡ seat.old.id) }
     ensures me { seat.new.me
         ≡ (
-          record seat.old.me.0 { written = width context.now.run.now history.old.node },
+          record seat.old.me.0 { written = width context.now.run.now opening.node },
           seat.old.me.1,
         ) }
-    ensures value { history.new.turns.items
-        ≡ history.old.turns.items ++ row context.now.run.now history.old.node turn }
-    ensures same { HasOpened history.old history.new }
+    ensures told { buffers.new.told.items ≡ row context.now.run.now opening.node opening.turn }
+    ensures room { HasSameRoom buffers.old buffers.new }
     ensures remembers { Remembers (C.memory context.now.openings.now) scratch.new }
 {
-    let node = history.node;
-    history.from.clear();
+    let node = opening.node;
+    buffers.from.clear();
     let learnt = Learnt {
         scratch: &*scratch,
-        turn,
+        turn: opening.turn,
     };
-    read_rows(context, &learnt, seat, node, &mut history.from);
-    let before = history.turns.len();
-    let from = history.from.as_slice();
+    read_rows(context, &learnt, seat, node, &mut buffers.from);
     context.openings.compute(
         LatchId::new(node as u32),
-        turn,
-        from,
+        opening.turn,
+        buffers.from.as_slice(),
         scratch,
-        &mut history.turns,
+        &mut buffers.told,
     );
-    let words = &history.turns.as_slice()[before..];
-    write_row(context, seat, words, node, turn);
+    let words = buffers.told.as_slice();
+    write_row(context, seat, words, node, opening.turn);
 }

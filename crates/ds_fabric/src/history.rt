@@ -1,21 +1,22 @@
-//! The history of a node: what its firings told, turn by turn, in one list.
-ghost use Rattle.std.specs.Prelude.{◌≡◌, ◌<◌, ◌+◌, ℕ, true};
+//! The history of a node: where the words of its firings stand, turn by turn, in a list.
+ghost use Rattle.std.specs.Prelude.{◌≡◌, ◌<◌, ◌+◌, ◌*◌, ℕ, true, length};
 ghost use Rattle.ds_rule.specs.Run.{Run, turns, opens};
 ghost use Rattle.ds_rule.specs.Event.{is_opening};
 ghost use Rattle.ds_fabric.specs.HistoryList.{StandsIn, ticket_in, ticket_place};
-ghost use Rattle.ds_fabric.specs.Noted.{HasNoted, HasRoomToNote};
 
 use ds_rule::EventRole;
 
-/// What a pass keeps of one node. `turns` has what its firings told, turn by turn, `stride` words a
-/// turn: of a latch the row of the opening, its ticket, and that of the closing, of another node
-/// the ticket of its one event. `from` is room for the numbers and the rows of its producers.
+/// What a pass keeps of one node. Its firings tell `stride` words a turn: of a latch the row of the
+/// opening, its ticket, and that of the closing, of another node the ticket of its one event. They
+/// stand in a list that has `step` words a turn, from word `first` of each turn on. `own` is that
+/// list where the node has one of its own.
 pub struct History {
     pub node: usize,
     pub fired: u64,
     pub stride: usize,
-    pub turns: Vec<u64>,
-    pub from: Vec<u64>,
+    pub first: usize,
+    pub step: usize,
+    pub own: Vec<u64>,
 }
 
 impl Drop for History {
@@ -24,37 +25,27 @@ impl Drop for History {
             node: _,
             fired: _,
             stride: _,
-            turns: _,
-            from: _,
+            first: _,
+            step: _,
+            own: _,
         } = self;
     }
 }
 
 impl History {
-    /// Keeps the ticket of the node's next event.
-    pub fn note(&mut self, ticket: u64)
-        requires few { self.old.fired + 1 < 18446744073709551616 }
-        requires room { HasRoomToNote self.old }
-        ensures { HasNoted self.old self.new ticket }
-    {
-        self.turns.push_reserved(ticket);
-        self.fired += 1;
-    }
-
-    /// The ticket of firing number k, from 0, of an event of the node.
-    pub fn ticket(&self, role: EventRole, k: usize) -> u64
+    /// The ticket of firing number k, from 0, of an event of the node, out of its list.
+    pub fn ticket(&self, words: &[u64], role: EventRole, k: usize) -> u64
         requires { (run : Run) × (event : ℕ) × (opens run event ≡ is_opening role)
-            × StandsIn run self.now event × (k < turns run event self.now.fired) }
+            × StandsIn run self.now words.now event × (k < turns run event self.now.fired) }
         ensures { (run : Run) (event : ℕ) → opens run event ≡ is_opening role
-            → result ≡ ticket_in run self.now event k }
+            → result ≡ ticket_in run self.now words.now event k }
     {
-        let turns = self.turns.as_slice();
-        let first = ticket_place(role, self.stride);
-        turns[k * self.stride + first]
+        let place = ticket_place(role, self.stride);
+        words[k * self.step + self.first + place]
     }
 }
 
-// Where in a turn of so many words the ticket of such an event stands.
+// Where among the words of a turn the ticket of such an event stands.
 fn ticket_place(role: EventRole, stride: usize) -> usize
     requires wide { 0 < stride }
     requires wider { is_opening role ≡ true → 1 < stride }

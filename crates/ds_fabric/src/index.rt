@@ -2,7 +2,7 @@
 ghost use Rattle.std.specs.Prelude.{◌≡◌, ◌<◌, ◌≤◌, ◌+◌, ℕ, List, IfOk, length, replicate};
 ghost use Rattle.ds_rule.specs.Sound.{IsSound, edge_at};
 ghost use Rattle.ds_rule.specs.Rows.{IsStarts};
-ghost use Rattle.ds_fabric.specs.Ranged.{IsFrom, AreFirstEdges};
+ghost use Rattle.ds_fabric.specs.Ranged.{IsFrom, AreFirstEdges, AreReads};
 ghost use Rattle.ds_rule.specs.declared.table_run.DataEdge.{DataEdge};
 
 use ds_base::OutOfMemory;
@@ -10,10 +10,11 @@ use ds_rule::{DataEdge, RunValues, TableRun};
 use std::alloc::Global;
 
 /// Where the rows of each node begin among the words, and its edges among the edges, which stand by
-/// consumer. `firsts` has one place more.
+/// consumer, and how many words it reads at most. `firsts` has one place more.
 pub struct Index {
     pub starts: Vec<usize>,
     pub firsts: Vec<usize>,
+    pub reads: Vec<usize>,
 }
 
 impl Drop for Index {
@@ -21,23 +22,30 @@ impl Drop for Index {
         let Index {
             starts: _,
             firsts: _,
+            reads: _,
         } = self;
     }
 }
 
 impl Index {
-    /// Of where the rows of each node begin.
+    /// Of where the rows of each node begin, and how many words it reads.
     pub fn of<V: RunValues>(
         alloc: Global,
         run: &TableRun<V>,
         starts: Vec<usize>,
+        reads: Vec<usize>,
     ) -> Result<Index, OutOfMemory>
         requires { IsSound run.now }
+        ensures reads { IfOk result (λ x. x.reads.items ≡ reads.items) }
         ensures starts { IfOk result (λ x. x.starts.items ≡ starts.items) }
         ensures firsts { IfOk result (λ x. AreFirstEdges run.now x.firsts.items) }
     {
         let firsts = firsts(alloc, run)?;
-        Ok(Index { starts, firsts })
+        Ok(Index {
+            starts,
+            firsts,
+            reads,
+        })
     }
 }
 

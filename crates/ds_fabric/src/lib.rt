@@ -12,6 +12,7 @@
 #![tactic(auto)]
 
 mod arc_in;
+mod buffers;
 mod build;
 mod chain;
 mod compute;
@@ -21,10 +22,12 @@ mod fabric;
 mod fire_due;
 mod flight;
 mod hints;
+mod histories;
 mod history;
 mod incoming;
 mod index;
 mod learnt;
+mod opening;
 mod pass;
 mod places;
 mod record;

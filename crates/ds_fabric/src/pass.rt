@@ -3,7 +3,7 @@ ghost use Rattle.std.specs.Prelude.{◌≡◌, ◌↔◌, ◌<◌, ℕ, true, Is
 ghost use Rattle.ds_rule.specs.Rule.{holds, seen};
 ghost use Rattle.ds_fabric.specs.Showing.{IsCounted};
 
-use crate::history::History;
+use crate::histories::Histories;
 use crate::places::{find, has};
 use atomic_table::Seat;
 use ds_base::{LatchId, Scratch};
@@ -14,14 +14,13 @@ use std::marker::Model;
 #[derive(Drop)]
 pub struct Pass {
     pub(crate) seat: Seat<u8, View>,
-    pub(crate) nodes: Vec<History>,
-    pub(crate) places: Vec<usize>,
+    pub(crate) histories: Histories,
     pub(crate) scratch: Scratch,
     pub(crate) room: u32,
 }
 
 impl Model for Pass {
-    ghost use Rattle.std.specs.Prelude.{vec_len, vec_capacity};
+    ghost use Rattle.std.specs.Prelude.{vec_len};
     ghost use Rattle.ds_fabric.specs.Showing.{Showing, IsPass};
 
     ghost Value = { Showing };
@@ -29,13 +28,12 @@ impl Model for Pass {
     ghost view = { λ p. record {
       table_id = p.seat.table_id;
       view = p.seat.me.0;
-      many = vec_len p.nodes;
+      many = vec_len p.histories.nodes;
       room = p.room;
       scratch = p.scratch;
     } };
 
-    ghost invariant = { λ p. IsPass p.seat.me p.room (vec_capacity p.nodes) p.nodes.items
-        p.places.items };
+    ghost invariant = { λ p. IsPass p.seat.me p.room p.histories };
 }
 
 impl Pass {
@@ -44,8 +42,8 @@ impl Pass {
         requires { node < self.now.view.run.nodes }
         ensures { IsTrue result ↔ (holds self.now.view node ≡ true) }
     {
-        let nodes = self.nodes.as_slice();
-        has(nodes, self.places.as_slice(), node.index())
+        let nodes = self.histories.nodes.as_slice();
+        has(nodes, self.histories.places.as_slice(), node.index())
     }
 
     /// The most nodes that it can hold.
@@ -62,8 +60,8 @@ impl Pass {
         ensures counted { IsCounted self.now.view }
     {
         let number = node.index();
-        let nodes = self.nodes.as_slice();
-        let at = find(nodes, self.places.as_slice(), number);
-        self.nodes[at].fired
+        let nodes = self.histories.nodes.as_slice();
+        let at = find(nodes, self.histories.places.as_slice(), number);
+        nodes[at].fired
     }
 }

@@ -9,6 +9,7 @@ ghost use Rattle.ds_rule.specs.Rule.{tickets};
 ghost use Rattle.ds_fabric.specs.Showing.{IsFiredInOrder, IsTold};
 ghost use Rattle.ds_fabric.specs.Unpacked.{IsPacked};
 
+use crate::histories::Histories;
 use crate::history::History;
 use crate::pass::Pass;
 use crate::places::find;
@@ -24,8 +25,7 @@ use std::snapshot::Snapshot;
 /// firings there were.
 #[derive(Drop)]
 pub struct Record {
-    pub(crate) nodes: Vec<History>,
-    pub(crate) places: Vec<usize>,
+    pub(crate) histories: Histories,
     pub(crate) design_nodes: usize,
     pub(crate) many: u64,
     pub(crate) shown: Snapshot<Pass>,
@@ -38,8 +38,7 @@ impl Model for Record {
 
     ghost view = { λ r. record { shown = r.shown.value; many = r.many } };
 
-    ghost invariant = { λ r. IsRecord r.shown.value r.nodes.items r.places.items r.design_nodes
-        r.many };
+    ghost invariant = { λ r. IsRecord r.shown.value r.histories r.design_nodes r.many };
 }
 
 impl Record {
@@ -56,7 +55,8 @@ impl Record {
         ensures { result ≡ slice_index (tickets self.now.shown.view event) k }
     {
         let event = NodeEvent::of(event.index(), self.design_nodes);
-        self.history(event.node).ticket(event.role, k)
+        let history = self.history(event.node);
+        history.ticket(self.histories.words(history), event.role, k)
     }
 
     /// How often the event fired.
@@ -91,11 +91,11 @@ impl Record {
             ≡ slice_index self.now.shown.view.run.lengths node }
     {
         let history = self.history(node.index());
-        let turns = history.turns.as_slice();
-        let from = k * history.stride;
+        let words = self.histories.words(history);
+        let from = k * history.step + history.first;
         // Behind the row stand the tickets of the opening and of the closing.
         let width = history.stride - 2;
-        &turns[from..from + width]
+        &words[from..from + width]
     }
 
     /// Value word i of stored row number k, from 0.
@@ -122,11 +122,12 @@ impl Record {
     // The history of a node. The run is sound, for a caller too.
     fn history(&self, node: usize) -> &History
         requires { IsSound self.now.shown.view.run → node < self.now.shown.view.run.nodes }
-        ensures { IsTold self.now.shown.view node result.now }
+        ensures { IsTold self.now.shown.view node result.now
+            (words_of self.inside.histories result.now) }
     {
-        let nodes = self.nodes.as_slice();
-        let at = find(nodes, self.places.as_slice(), node);
-        &self.nodes[at]
+        let nodes = self.histories.nodes.as_slice();
+        let at = find(nodes, self.histories.places.as_slice(), node);
+        &nodes[at]
     }
 
     /// The events by rising ticket.
@@ -136,12 +137,7 @@ impl Record {
         ensures ok_long { IfOk result (λ v. length v.items ≡ self.now.many) }
     {
         let mut out = no_events(alloc, self.many as usize)?;
-        spread_all(
-            self.design_nodes,
-            self.nodes.as_slice(),
-            self.places.as_slice(),
-            out.as_mut_slice(),
-        );
+        spread_all(self.design_nodes, &self.histories, out.as_mut_slice());
         Ok(out)
     }
 }
