@@ -1,6 +1,7 @@
 -- What a pass knows and keeps, then the parts of a fabric, then the record.
 pub mod LoadedViews
 pub mod HistoryLayout
+pub mod WordsInLists
 pub mod PassMemory
 pub mod Flights
 pub mod FiresIfEnabled

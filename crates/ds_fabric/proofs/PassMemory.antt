@@ -23,33 +23,36 @@ use Rattle.ds_rule.proofs.EventLaws.{node-next, turns-next, turns-other, event_b
 use Rattle.ds_rule.proofs.EventLaws.{even_opens, next-opens, turns-opening, node-opening}
 use Rattle.ds_fabric.specs.declared.history.History.{History}
 use Rattle.ds_fabric.specs.Looks.{LooksOn}
-use Rattle.ds_fabric.specs.HistoryList.{stride_of, new_row, turns_told}
+use Rattle.ds_fabric.specs.HistoryList.{stride_of, new_row, turns_told, StandsAt, words_of}
+use Rattle.ds_fabric.specs.HistoryList.{room_of}
+use Rattle.ds_fabric.specs.declared.histories.Histories.{Histories}
 use Rattle.ds_fabric.specs.Noted.{HasFired}
-use Rattle.ds_fabric.specs.Showing.{HasHistoryRoom, Tells, Keeps}
+use Rattle.ds_fabric.specs.Showing.{Tells, Keeps}
 use Rattle.ds_fabric.specs.Stepped.{FiresNext, done, seen_at_departure}
 use Rattle.ds_fabric.proofs.LoadedViews.{has_after}
 use Rattle.ds_fabric.proofs.HistoryLayout.{told_same, told_fires}
 
 -- the history of a node, beside another view that says the same of the node
-pub tells_moved : (v w : View) (h : History) → Tells v h → w.run ≡ v.run → holds w h.node ≡ true
-    → seen w h.node ≡ seen v h.node
-    → ((e : ℕ) → node_of v.run e ≡ h.node → tickets w e ≡ tickets v e) → Tells w h
-tells_moved v w h t run has same ticks = let l : ℕ = h.node in record {
+pub tells_moved : (v w : View) (h : History) (words : List ℕ) (room : ℕ) → Tells v h words room
+    → w.run ≡ v.run → holds w h.node ≡ true → seen w h.node ≡ seen v h.node
+    → ((e : ℕ) → node_of v.run e ≡ h.node → tickets w e ≡ tickets v e) → Tells w h words room
+tells_moved v w h words room t run has same ticks = let l : ℕ = h.node in record {
   has = has;
   fired = t.fired ∙ sym same;
   stride = t.stride ∙ ap (λ (r : Run). stride_of r l) (sym run);
-  turns = t.turns ∙ sym (ap (λ (r : Run). turns_told r (tickets w) l (seen w l)) run
+  turns = subst (StandsAt words h.first h.stride h.step)
+      (sym (ap (λ (r : Run). turns_told r (tickets w) l (seen w l)) run
       ∙ (ap (turns_told v.run (tickets w) l) same
       ∙ told_same v.run (tickets v) (tickets w) l (seen v l) (λ g _.
       ap (λ (ts : List ℕ). get_or ts (turns v.run (next v.run l g) g) 0)
-      (ticks (next v.run l g) (node-next v.run l g)))));
-  room = subst (λ (r : Run). HasHistoryRoom r l h) (sym run) t.room;
+      (ticks (next v.run l g) (node-next v.run l g)))))) t.turns;
+  fits = subst (λ (r : Run). r.limit * h.step ≤ room) (sym run) t.fits;
 }
 
 -- loads keep what a pass has in memory
-pub looks_keep : (me me' : Sat) (nodes : List History) → Keeps me nodes → LooksOn me.0 me'.0
-    → me'.1 ≡ me.1 → Keeps me' nodes
-looks_keep me me' nodes k q slots =
+pub looks_keep : (me me' : Sat) (s : Histories) → Keeps me s → LooksOn me.0 me'.0
+    → me'.1 ≡ me.1 → Keeps me' s
+looks_keep me me' s k q slots =
     let v : View = me.0 in let w : View = me'.0 in
     let has : (l : ℕ) → holds w l ≡ holds v l = λ l. has_after v w l q in
     let ticks : (e : ℕ) → tickets w e ≡ tickets v e =
@@ -67,9 +70,13 @@ looks_keep me me' nodes k q slots =
           let h' : holds v l ≡ true = sym (has l) ∙ h in
           ap (turns v.run e) (q.own l h') ∙ (k.counts e h' ∙ ap length (sym (ticks e))));
       listed = λ i h at. let t = k.listed i h at in
-          tells_moved v w h t q.run (has h.node ∙ t.has) (q.own h.node t.has) (λ e is. ticks e);
+          tells_moved v w h (words_of s h) (room_of s h) t q.run (has h.node ∙ t.has)
+          (q.own h.node t.has) (λ e is. ticks e);
       found = λ l h. k.found l (sym (has l) ∙ h);
       distinct = k.distinct;
+      beside = k.beside;
+      all = λ one l near. has l
+          ∙ k.all one l (subst (λ (r : Run). l < r.nodes) q.run near);
     }
 
 abbrev pub landed : View → ℕ → ℕ → View
@@ -79,17 +86,17 @@ landed v l t = after_publish (after_draw (after_depart v l) t)
 abbrev coming : View → ℕ → ℕ
 coming v l = next v.run l (seen v l)
 
-pub near-node : (me : Sat) (nodes : List History) (l : ℕ) → Keeps me nodes → holds me.0 l ≡ true
+pub near-node : (me : Sat) (s : Histories) (l : ℕ) → Keeps me s → holds me.0 l ≡ true
     → l < me.0.run.nodes
-near-node me nodes l k h = omega (arith, has_below me.0.holds l h, k.held_long)
+near-node me s l k h = omega (arith, has_below me.0.holds l h, k.held_long)
 
-near-event : (me : Sat) (nodes : List History) (l : ℕ) → Keeps me nodes → holds me.0 l ≡ true
+near-event : (me : Sat) (s : Histories) (l : ℕ) → Keeps me s → holds me.0 l ≡ true
     → coming me.0 l < length me.0.tickets
-near-event me nodes l k h = omega (
+near-event me s l k h = omega (
   arith,
   k.tickets_long,
   event_below me.0.run (coming me.0 l) k.among
-      (omega (arith, node-next me.0.run l (seen me.0 l), near-node me nodes l k h)),
+      (omega (arith, node-next me.0.run l (seen me.0 l), near-node me s l k h)),
 )
 
 tickets-landed : (v : View) (l t e : ℕ) → coming v l < length v.tickets → e ≡ coming v l
@@ -196,13 +203,13 @@ pub at_departure-else : (v w : View) (l x : ℕ) → x ≢ l → seen_at_departu
 at_departure-else v w l x n = ap (λ b. cond b (seen v l) (seen w x)) (ne_eqb x l n)
 
 -- what a firing after loads says
-pub fires : (run : Run) (me me' : Sat) (nodes : List History) (w : View) (l event turn t : ℕ)
-    → me.0.run ≡ run → Keeps me nodes → holds me.0 l ≡ true → LooksOn me.0 me'.0 → me'.1 ≡ me.1
+pub fires : (run : Run) (me me' : Sat) (s : Histories) (w : View) (l event turn t : ℕ)
+    → me.0.run ≡ run → Keeps me s → holds me.0 l ≡ true → LooksOn me.0 me'.0 → me'.1 ≡ me.1
     → event ≡ next run l (seen me.0 l) → turn ≡ done run me.0 l + 1 → turn ≤ run.limit
     → IsEnabledInRun run (seen me'.0) event → me'.0.drawn ≤ t → w ≡ landed me'.0 l t
     → FiresNext run me.0 w l event turn t
-fires run me me' nodes w l event turn t run_is k has q slots event_is turn_is within on fresh is =
-    let v : View = me.0 in let u : View = me'.0 in let k' = looks_keep me me' nodes k q slots in
+fires run me me' s w l event turn t run_is k has q slots event_is turn_is within on fresh is =
+    let v : View = me.0 in let u : View = me'.0 in let k' = looks_keep me me' s k q slots in
     let has' : holds u l ≡ true = has_after v u l q ∙ has in
     let P : View → Type 0 = λ x. FiresNext run v x l event turn t in
     let own : seen u l ≡ seen v l = q.own l has in
@@ -210,11 +217,11 @@ fires run me me' nodes w l event turn t run_is k has q slots event_is turn_is wi
     ∙ (ap (next run l) own ∙ sym event_is) in
     let ticks : (e : ℕ) → tickets u e ≡ tickets v e =
     λ e. ap (λ (ts : List (List ℕ)). get_or ts e []) q.tickets_same in
-    let near-E = near-event me' nodes l k' has' in
+    let near-E = near-event me' s l k' has' in
     let near-l : l < length u.seen = omega (
       arith,
       k'.seen_long,
-      near-node me' nodes l k' has',
+      near-node me' s l k' has',
     ) in
     let rises : (x : ℕ) → seen u x ≤ seen (landed u l t) x = λ x. dite (ℕ_discrete x l)
     (λ e. omega (arith, ap (seen u) e, seen-landed u l t x near-l e))
@@ -243,18 +250,18 @@ fires run me me' nodes w l event turn t run_is k has q slots event_is turn_is wi
     })
 
 -- the history that was found, and is read or lent again
-pub record Found (me : Sat) (nodes : List History) (i node : ℕ) (h : History) : Type 0 where
-  pub at : get_elem? nodes i ≡ some h
+pub record Found (me : Sat) (s : Histories) (i node : ℕ) (h : History) : Type 0 where
+  pub at : get_elem? s.nodes.items i ≡ some h
   pub node_is : h.node ≡ node
-  pub tells : Tells me.0 h
+  pub tells : Tells me.0 h (words_of s h) (room_of s h)
   pub has : holds me.0 node ≡ true
   pub near : node < me.0.run.nodes
 
-pub reads : (me : Sat) (nodes zs : List History) (i node : ℕ) (h : History) → zs ≡ nodes
-    → Keeps me nodes → (x : History) × (get_elem? zs i ≡ some x) × (x.node ≡ node)
-    → h ≡ get_or nodes i h
-    → Found me nodes i node h
-reads me nodes zs i node h e k f is =
+pub reads : (me : Sat) (s : Histories) (zs : List History) (i node : ℕ) (h : History)
+    → zs ≡ s.nodes.items → Keeps me s
+    → (x : History) × (get_elem? zs i ≡ some x) × (x.node ≡ node) → h ≡ get_or s.nodes.items i h
+    → Found me s i node h
+reads me s zs i node h e k f is = let nodes : List History = s.nodes.items in
     let there : get_elem? nodes i ≡ some f.0 = subst (λ ys. get_elem? ys i ≡ some f.0) e f.1 in
     let at : get_elem? nodes i ≡ some h = at_index nodes i h (at_below nodes i f.0 there) is in
     let same : h.node ≡ node = ap (λ (x : History). x.node) (same_at nodes i h f.0 at there)
@@ -264,7 +271,7 @@ reads me nodes zs i node h e k f is =
       node_is = same;
       tells = o;
       has = has;
-      near = near-node me nodes node k has;
+      near = near-node me s node k has;
     }
 
 -- an opening that is enabled is one of a latch, and of no turn past the limit

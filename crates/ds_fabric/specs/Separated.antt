@@ -1,6 +1,6 @@
 -- Histories that get lists of their own.
 use Rattle.std.specs.Prelude.{◌≡◌, ℕ, ◌+◌, ◌*◌, ◌<◌, ◌≤◌, List, [], ◌++◌, true, zero, suc, take, drop}
-use Rattle.std.specs.Prelude.{Vec, length, vec_capacity}
+use Rattle.std.specs.Prelude.{false, length, vec_capacity}
 use mathlib.Core.Option.{some}
 use lib.ListN.{get_elem?}
 use Rattle.ds_fabric.specs.declared.history.History.{History}
@@ -23,12 +23,12 @@ words_until words h (suc k) =
     words_until words h k ++ take h.stride (drop (k * h.step + h.first) words)
 
 -- a list of its own, of the words in all whole turns of a list, with room for so many turns
-pub record IsOwn (limit : ℕ) (h : History) (words : List ℕ) (own : Vec ℕ) : Type 0 where
+pub record IsOwn (limit : ℕ) (h : History) (words own : List ℕ) (room : ℕ) : Type 0 where
   pub turns : ℕ
   pub all : (k : ℕ) → (k + 1) * h.step ≤ length words → k < turns
   pub whole : turns * h.step ≤ length words
-  pub items : own.items ≡ words_until words h turns
-  pub room : limit * h.stride ≤ vec_capacity own
+  pub items : own ≡ words_until words h turns
+  pub fits : limit * h.stride ≤ room
 
 -- the same history with a list of its own
 pub record IsCopy (limit : ℕ) (words : List ℕ) (g h : History) : Type 0 where
@@ -37,7 +37,7 @@ pub record IsCopy (limit : ℕ) (words : List ℕ) (g h : History) : Type 0 wher
   pub stride : h.stride ≡ g.stride
   pub first : h.first ≡ 0
   pub step : h.step ≡ g.stride
-  pub own : IsOwn limit g words h.own
+  pub own : IsOwn limit g words h.own.items (vec_capacity h.own)
 
 -- the same histories, each with a list of its own
 pub record AreCopies (limit : ℕ) (s : Histories) (copies : List History) : Type 0 where

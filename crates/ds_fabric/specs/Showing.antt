@@ -117,7 +117,7 @@ pub record Tells (v : View) (h : History) (words : List ℕ) (room : ℕ) : Type
   pub stride : h.stride ≡ stride_of v.run h.node
   pub turns : StandsAt words h.first h.stride h.step
       (turns_told v.run (tickets v) h.node (seen v h.node))
-  pub room : v.run.limit * h.step ≤ room
+  pub fits : v.run.limit * h.step ≤ room
 
 -- each event that is held has a ticket for each firing
 abbrev pub IsCounted : View → Type 0

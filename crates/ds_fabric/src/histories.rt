@@ -147,7 +147,8 @@ fn own_words(
     limit: usize,
 ) -> Result<Vec<u64>, OutOfMemory>
     requires wide { IsWide limit history.now }
-    ensures { IfOk result (λ v. IsOwn limit history.now words.now v) }
+    ensures { IfOk result (λ v.
+        IsOwn limit history.now words.now v.items (vec_capacity v)) }
 {
     let stride = history.stride;
     let mut own = Vec::with_capacity(alloc, limit * stride)?;
