@@ -5,7 +5,7 @@ use Rattle.std.proofs.Common.{get_or, set, sym, refl, ap, ◌∙◌, subst, arit
 use Rattle.std.proofs.Common.{le_of_eq, length-set}
 use Rattle.std.proofs.Common.{get_or-set_other, get_or-set_same, length-append}
 use Rattle.std.proofs.Common.{⊎_elim}
-use Rattle.std.proofs.Common.{zero, ◌/◌, cond, eq-eqb, ne_eqb}
+use Rattle.std.proofs.Common.{zero, ◌/◌, ◌*◌, cond, eq-eqb, ne_eqb}
 use Rattle.ds_rule.proofs.EventLaws.{opened-low}
 use mathlib.Core.Logic.{dite}
 use mathlib.Core.Option.{some}
