@@ -1,6 +1,7 @@
 -- Words that stand in a list, turn by turn, where others are written.
 use Rattle.std.proofs.Common.{◌≡◌, ℕ, zero, suc, ◌+◌, ◌*◌, ◌<◌, ◌≤◌, ◌⊎◌, inl, inr, ⊎_elim, List}
-use Rattle.std.proofs.Common.{length, get_or, ◌++◌, sym, ap, ◌∙◌, arith, suc-mul, length-append, refl}
+use Rattle.std.proofs.Common.{length, get_or, ◌++◌, sym, ap, ◌∙◌, arith, suc-mul, length-append, refl, ◌-◌}
+use Rattle.std.proofs.Common.{set, [], ◌∷◌, length-set, get_or-set_same, get_or-set_other}
 use Rattle.std.proofs.Math.Nat.{mul-le-mul_right}
 use mathlib.Core.Logic.{dite}
 use native.Mathlib.Decide.{ℕ_discrete, dec_lt}
@@ -37,7 +38,12 @@ stands_more words words' first stride step k o start end told more s w long star
     (λ no. dite (dec_lt k j)
     (λ z. absurd (omega (arith, below, length-append told more, turns_before k j stride z)))
     (λ z. dite (dec_lt j k)
-    (λ less. absurd (omega (arith, turns_before j k stride less)))
+    (λ less. absurd (omega (
+      arith,
+      below,
+      length-append told more,
+      turns_before j k stride less,
+    )))
     (λ same. let e : j ≡ k = omega arith in
     omega (arith, ap (λ (x : ℕ). (x + 1) * step) e, w.reaches)))) in
     record {
@@ -103,3 +109,48 @@ stands_else words words' first stride step k o start end first' stride' told mor
           ⊎_elim (λ y. w.before at y near) (λ y. w.behind at y near) side
           ∙ s.same j p low below;
     }
+
+-- a list that goes on behind another one
+pub record GoesOn (old new : List ℕ) : Type 0 where
+  pub longer : length old ≤ length new
+  pub same : (p : ℕ) → p < length old → get_or new p 0 ≡ get_or old p 0
+
+pub goes_on : (old xs ys : List ℕ) (x : ℕ) → GoesOn old xs → ys ≡ xs ++ x ∷ [] → GoesOn old ys
+goes_on old xs ys x g is = let long = ap (λ (zs : List ℕ). length zs) is in record {
+  longer = omega (arith, g.longer, long, length-append xs (x ∷ []));
+  same = λ p h. ap (λ (zs : List ℕ). get_or zs p 0) is
+      ∙ (get-first xs (x ∷ []) p (omega (arith, g.longer)) ∙ g.same p h);
+}
+
+-- the first i of the words are written
+pub record IsWrittenTo (old new : List ℕ) (start end i : ℕ) (told : List ℕ) : Type 0 where
+  pub longer : length old ≤ length new
+  pub reaches : end ≤ length new
+  pub here : (j : ℕ) → j < i → get_or new (start + j) 0 ≡ get_or told j 0
+  pub before : (p : ℕ) → p < start → p < length old → get_or new p 0 ≡ get_or old p 0
+  pub behind : (p : ℕ) → start + length told ≤ p → p < length old
+      → get_or new p 0 ≡ get_or old p 0
+
+pub written_one : (old new : List ℕ) (start end i x : ℕ) (told : List ℕ)
+    → IsWrittenTo old new start end i told → start + length told ≤ end → i < length told
+    → x ≡ get_or told i 0 → IsWrittenTo old (set new (start + i) x) start end (i + 1) told
+written_one old new start end i x told w fits less is =
+    let long : length (set new (start + i) x) ≡ length new = length-set new (start + i) x in record {
+      longer = omega (arith, w.longer, long);
+      reaches = omega (arith, w.reaches, long);
+      here = λ j below. dite (ℕ_discrete j i)
+          (λ e. ap (λ (y : ℕ). get_or (set new (start + i) x) (start + y) 0) e
+          ∙ (get_or-set_same new (start + i) x 0 (omega (arith, w.reaches))
+          ∙ (is ∙ ap (λ (y : ℕ). get_or told y 0) (sym e))))
+          (λ n. get_or-set_other new (start + i) (start + j) x 0 (λ e. n (omega (arith, e)))
+          ∙ w.here j (omega arith));
+      before = λ p h near. get_or-set_other new (start + i) p x 0 (λ e. absurd (omega (arith, e)))
+          ∙ w.before p h near;
+      behind = λ p h near. get_or-set_other new (start + i) p x 0 (λ e. absurd (omega (arith, e)))
+          ∙ w.behind p h near;
+    }
+
+-- where a turn ends
+pub ends_turn : (k s : ℕ) → (k + 1) * s ≡ k * s + s
+ends_turn k s = let e : k + 1 ≡ suc k = omega arith in
+    ap (λ (x : ℕ). x * s) e ∙ omega (arith, suc-mul k s)

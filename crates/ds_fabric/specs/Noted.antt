@@ -12,15 +12,25 @@ use Rattle.ds_fabric.specs.declared.histories.Histories.{Histories}
 use Rattle.ds_fabric.specs.HistoryList.{IsWritten, words_of, room_of, turn_of, offset_of}
 use Rattle.ds_fabric.specs.HistoryList.{start_of, end_of, new_row}
 
+-- the role is that of the next event of the history's node
+pub record IsNextRole (run : Run) (h : History) (role : EventRole) : Type 0 where
+  pub turns_is : fired_of role h.fired ≡ turn_of run h
+  pub opens_is : opens run (next run h.node h.fired) ≡ is_opening role
+
+-- the node has words in each turn of its list, and the places up to the end of the next turn are
+-- numbers of 64 bits
+pub record HasSpan (run : Run) (h : History) : Type 0 where
+  pub wide : 0 < h.stride
+  pub inside : h.first + h.stride ≤ h.step
+  pub small : end_of run h < 18446744073709551616
+
 -- there is room for what the next event tells, whose role this is, in the list and in its buffer
 pub record HasRoomToNote (run : Run) (s : Histories) (at : ℕ) (role : EventRole) : Type 0 where
   pub history : History
   pub there : get_elem? s.nodes.items at ≡ some history
-  pub turns_is : fired_of role history.fired ≡ turn_of run history
-  pub opens_is : opens run (next run history.node history.fired) ≡ is_opening role
+  pub role_is : IsNextRole run history role
   pub few : history.fired + 1 < 18446744073709551616
-  pub wide : 0 < history.stride
-  pub inside : history.first + history.stride ≤ history.step
+  pub span : HasSpan run history
   pub fits : offset_of run history + (vec_len s.buffers.told + 1) ≤ history.stride
   pub room : end_of run history ≤ room_of s history
   pub buffer : vec_len s.buffers.told < vec_capacity s.buffers.told

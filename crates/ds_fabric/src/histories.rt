@@ -59,10 +59,7 @@ impl Histories {
         self.buffers.told.push_reserved(ticket);
         let told = self.buffers.told.as_slice();
         let history = &mut self.nodes[at];
-        let turn = role.turns(history.fired) as usize;
-        let place = if role.opens() { 0 } else { history.stride - 1 };
-        let start = turn * history.step + history.first + place;
-        let end = (turn + 1) * history.step;
+        let (start, end) = history.span(role);
         history.fired += 1;
         if self.apart {
             write_at(&mut history.own, start, end, told);
@@ -166,7 +163,7 @@ fn write_at(words: &mut Vec<u64>, start: usize, end: usize, told: &[u64])
     ensures written { IsWritten words.old.items words.new.items start end told.now }
     ensures room { vec_capacity words.new ≡ vec_capacity words.old }
 {
-    for _ in words.len()..end {
+    for place in words.len()..end {
         words.push_reserved(0);
     }
     for i in 0..told.len() {
