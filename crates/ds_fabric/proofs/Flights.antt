@@ -1,6 +1,7 @@
 -- The next event of a node: what is known of it, and what its flight asks.
-use Rattle.std.proofs.Common.{◌≡◌, ℕ, ◌+◌, ◌<◌, ◌≤◌, true, List, length, vec_capacity}
+use Rattle.std.proofs.Common.{◌≡◌, ℕ, suc, ◌+◌, ◌*◌, ◌<◌, ◌≤◌, true, List, length}
 use Rattle.std.proofs.Common.{sym, refl, ap, ◌∙◌, subst, arith}
+use Rattle.std.proofs.Math.Nat.{mul-le-mul_right}
 use mathlib.Core.Option.{none, some}
 use lib.ListN.{get_elem?}
 use Rattle.atomic_table.specs.Table.{step, Allows}
@@ -15,20 +16,21 @@ use Rattle.ds_rule.proofs.GraphLaws.{event_there}
 use Rattle.ds_rule.proofs.Publishes.{publishes}
 use Rattle.ds_fabric.specs.Base.{IsInFlight, HasWritten}
 use Rattle.ds_fabric.specs.declared.history.History.{History}
-use Rattle.ds_fabric.specs.Flight.{HasRoomToFire}
+use Rattle.ds_fabric.specs.declared.histories.Histories.{Histories}
+use Rattle.ds_fabric.specs.Armed.{IsArmed}
+use Rattle.ds_fabric.specs.Flight.{HasRoomFor, HasRoomToFire}
 use Rattle.ds_fabric.specs.Looks.{LooksOn, Enough}
-use Rattle.ds_fabric.specs.HistoryList.{new_row}
-use Rattle.ds_fabric.specs.Showing.{Tells, Keeps}
+use Rattle.ds_fabric.specs.HistoryList.{end_of, turn_of, words_of, room_of}
+use Rattle.ds_fabric.specs.Showing.{Tells, Keeps, IsPass}
 use Rattle.ds_fabric.specs.Stepped.{done}
-use Rattle.ds_fabric.proofs.HistoryLayout.{told_fits}
 use Rattle.ds_fabric.proofs.PassMemory.{looks_keep, near-node, next_below}
 
 -- a node that is held is one of the run
-pub near_run : (run : Run) (me : Sat) (nodes : List History) (h : History) → me.0.run ≡ run
-    → Keeps me nodes → Tells me.0 h → h.node < run.nodes
-near_run run me nodes h run_is k t = omega (
+pub near_run : (run : Run) (me : Sat) (s : Histories) (l : ℕ) → me.0.run ≡ run → Keeps me s
+    → holds me.0 l ≡ true → l < run.nodes
+near_run run me s l run_is k has = omega (
   arith,
-  near-node me nodes h.node k t.has,
+  near-node me s l k has,
   ap (λ (r : Run). r.nodes) run_is,
 )
 
@@ -38,18 +40,18 @@ pub record Coming (run : Run) (v : View) (l event before : ℕ) : Type 0 where
   pub before_is : before ≡ done run v l
   pub below : event < events run
 
-pub coming : (run : Run) (me : Sat) (nodes : List History) (h : History) (event before : ℕ)
-    → me.0.run ≡ run → IsSound run → Keeps me nodes → Tells me.0 h
+pub coming : (run : Run) (me : Sat) (s : Histories) (i : ℕ) (h : History) (event before : ℕ)
+    → me.0.run ≡ run → IsSound run → Keeps me s → get_elem? s.nodes.items i ≡ some h
     → event ≡ next run h.node h.fired → before ≡ turns run event h.fired
     → Coming run me.0 h.node event before
-coming run me nodes h event before run_is sound k t e n =
-    let v : View = me.0 in let l : ℕ = h.node in
+coming run me s i h event before run_is sound k at e n =
+    let v : View = me.0 in let l : ℕ = h.node in let t = k.listed i h at in
     let event_is : event ≡ next run l (seen v l) = e ∙ ap (next run l) t.fired in record {
       event_is = event_is;
       before_is = n ∙ (ap (turns run event) t.fired
           ∙ ap (λ (x : ℕ). turns run x (seen v l)) event_is);
       below = subst (λ (x : ℕ). x < events run) (sym event_is)
-          (next_below run l (seen v l) sound.among (near_run run me nodes h run_is k t));
+          (next_below run l (seen v l) sound.among (near_run run me s l run_is k t.has));
     }
 
 -- the next event of a node is enabled at what was seen, where that is enough
@@ -68,68 +70,71 @@ is_ready run u l event turn among near event_is turn_is within enough =
           omega (arith, n, same, turn_is, enough k d inside (into ∙ sym event_is));
     }
 
--- there is room for what the next event tells
-room_next : (v : View) (h : History) → Tells v h
+-- the turn of the next event ends where there is room
+room_next : (v : View) (h : History) (words : List ℕ) (room : ℕ) → Tells v h words room
     → turns v.run (next v.run h.node (seen v h.node)) (seen v h.node) < v.run.limit
-    → length h.turns.items + length (new_row v.run h.node h.fired) < vec_capacity h.turns
-room_next v h t below = let l : ℕ = h.node in omega (
-  arith,
-  told_fits v.run (tickets v) l (seen v l) below,
-  ap length t.turns,
-  ap (λ (x : ℕ). length (new_row v.run l x)) t.fired,
-  t.room.turns,
-)
-
--- all that the flight of a node's next event asks
-pub record Armed (run : Run) (me : Sat) (nodes : List History) (h : History) : Type 0 where
-  pub keeps : Keeps me nodes
-  pub run_is : me.0.run ≡ run
-  pub held : holds me.0 h.node ≡ true
-  pub near : h.node < run.nodes
-  pub fired : h.fired ≡ seen me.0 h.node
-  pub ready : IsEnabledInRun run (seen me.0) (next run h.node h.fired)
-  pub room : HasRoomToFire run h
-
-armed : (run : Run) (me : Sat) (nodes : List History) (h : History) (event turn : ℕ)
-    → me.0.run ≡ run → Keeps me nodes → Tells me.0 h
-    → event ≡ next run h.node h.fired → turn ≡ turns run event h.fired + 1 → turn ≤ run.limit
-    → Enough run me.0 event turn → Armed run me nodes h
-armed run me nodes h event turn run_is k t e n within enough =
-    let u : View = me.0 in let l : ℕ = h.node in
-    let P : Run → Type 0 = λ r. event ≡ next r l h.fired → turn ≡ turns r event h.fired + 1
-    → turn ≤ r.limit → Enough r u event turn → Armed r me nodes h in
-    subst P run_is (λ e n within enough. let R : Run = u.run in
-    let E : ℕ = next R l (seen u l) in
-    let E-is : next R l h.fired ≡ E = ap (next R l) t.fired in
-    let below : turns R E (seen u l) < R.limit =
+    → end_of v.run h ≤ room
+room_next v h words room t below = let k : ℕ = turn_of v.run h in
+    let less : k + 1 ≤ v.run.limit = omega (
+      arith,
+      below,
+      ap (λ (f : ℕ). turns v.run (next v.run h.node f) f) t.fired,
+    ) in
     omega (
       arith,
-      n,
-      within,
-      ap (λ (x : ℕ). turns R x h.fired) (e ∙ E-is),
-      ap (turns R E) t.fired,
+      mul-le-mul_right {m = k + 1} {n = v.run.limit} h.step less,
+      t.fits,
+    )
+
+-- what is enabled at what was seen arms the flight
+pub arms_enabled : (run : Run) (me : Sat) (s : Histories) (i : ℕ) (h : History)
+    → me.0.run ≡ run → Keeps me s → HasRoomFor me.0.run h.node s.buffers
+    → get_elem? s.nodes.items i ≡ some h
+    → IsEnabledInRun run (seen me.0) (next run h.node (seen me.0 h.node))
+    → IsArmed run me.0 s i h
+arms_enabled run me s i h run_is k buffers at on =
+    let u : View = me.0 in let l : ℕ = h.node in let t = k.listed i h at in
+    let P : Run → Type 0 = λ r. IsEnabledInRun r (seen u) (next r l (seen u l))
+    → IsArmed r u s i h in
+    subst P run_is (λ on. let R : Run = u.run in let E : ℕ = next R l (seen u l) in
+    let below : turns R E (seen u l) < R.limit = omega (
+      arith,
+      on.below,
+      ap (λ (x : ℕ). turns R E (seen u x)) (node-next R l (seen u l)),
     ) in record {
-      keeps = k;
+      there = at;
+      live = k.live;
+      idle = k.idle;
       run_is = refl;
       held = t.has;
-      near = near-node me nodes l k t.has;
+      near = near-node me s l k t.has;
       fired = t.fired;
-      ready = subst (λ (x : ℕ). IsEnabledInRun R (seen u) x) (sym E-is)
-          (is_ready R u l event turn k.among (near-node me nodes l k t.has) (e ∙ E-is) (n ∙ ap
-          (λ (x : ℕ). turns R event x + 1) t.fired) within enough);
-      room = record { turns = omega (arith, room_next u h t below); from = t.room.from };
-    }) e n within enough
+      ready = subst (λ (f : ℕ). IsEnabledInRun R (seen u) (next R l f)) (sym t.fired) on;
+      room = record {
+        stride = t.stride;
+        inside = t.turns.inside;
+        room = room_next u h (words_of s h) (room_of s h) t below;
+        buffers = buffers;
+      };
+    }) on
 
 -- loads that showed enough arm the flight
-pub arms : (run : Run) (me me' : Sat) (nodes : List History) (i : ℕ) (h : History)
-    (event before : ℕ) → me.0.run ≡ run → Keeps me nodes → get_elem? nodes i ≡ some h
+pub arms : (run : Run) (me me' : Sat) (s : Histories) (i : ℕ) (h : History)
+    (event before : ℕ) → me.0.run ≡ run → Keeps me s → HasRoomFor me.0.run h.node s.buffers
+    → get_elem? s.nodes.items i ≡ some h → run.design_nodes ≤ run.nodes
     → event ≡ next run h.node h.fired → before ≡ turns run event h.fired → before < run.limit
     → LooksOn me.0 me'.0 → me'.1 ≡ me.1 → Enough run me'.0 event (before + 1)
-    → Armed run me' nodes h
-arms run me me' nodes i h event before run_is k at e n below looks slots enough =
-    let k' = looks_keep me me' nodes k looks slots in
-    armed run me' nodes h event (before + 1) (looks.run ∙ run_is) k' (k'.listed i h at) e
-    (ap (λ (x : ℕ). x + 1) n) (omega (arith, below)) enough
+    → IsArmed run me'.0 s i h
+arms run me me' s i h event before run_is k buffers at among e n below looks slots enough =
+    let k' = looks_keep me me' s k looks slots in let u : View = me'.0 in let l : ℕ = h.node in
+    let t = k'.listed i h at in let run_is' = looks.run ∙ run_is in
+    let event_is : event ≡ next run l (seen u l) = e ∙ ap (next run l) t.fired in
+    let turn_is : before + 1 ≡ turns run event (seen u l) + 1 =
+    ap (λ (x : ℕ). x + 1) (n ∙ ap (turns run event) t.fired) in
+    arms_enabled run me' s i h run_is' k'
+    (subst (λ (r : Run). HasRoomFor r l s.buffers) (sym looks.run) buffers) at
+    (is_ready run u l event (before + 1) among (near_run run me' s l run_is' k' t.has)
+    event_is turn_is (omega (arith, below)) enough)
 
 -- the firings of the node stay far below 64 bits
 pub few : (run : Run) (v : View) (l f : ℕ) → run.limit < 4611686018427387904 → f ≡ seen v l
@@ -170,28 +175,6 @@ still_flies run v l l' f f' n q node fired =
       near = q.near;
       enabled = q.enabled;
     }))
-
--- what is enabled at what was seen arms the flight
-pub arms_enabled : (run : Run) (me : Sat) (nodes : List History) (i : ℕ) (h : History)
-    → me.0.run ≡ run → Keeps me nodes → get_elem? nodes i ≡ some h
-    → IsEnabledInRun run (seen me.0) (next run h.node (seen me.0 h.node)) → Armed run me nodes h
-arms_enabled run me nodes i h run_is k at on =
-    let u : View = me.0 in let l : ℕ = h.node in let t = k.listed i h at in
-    let P : Run → Type 0 = λ r. IsEnabledInRun r (seen u) (next r l (seen u l)) → Armed r me nodes h in
-    subst P run_is (λ on. let R : Run = u.run in let E : ℕ = next R l (seen u l) in
-    let below : turns R E (seen u l) < R.limit = omega (
-      arith,
-      on.below,
-      ap (λ (x : ℕ). turns R E (seen u x)) (node-next R l (seen u l)),
-    ) in record {
-      keeps = k;
-      run_is = refl;
-      held = t.has;
-      near = near-node me nodes l k t.has;
-      fired = t.fired;
-      ready = subst (λ (f : ℕ). IsEnabledInRun R (seen u) (next R l f)) (sym t.fired) on;
-      room = record { turns = omega (arith, room_next u h t below); from = t.room.from };
-    }) on
 
 -- what is enabled of a node is enabled of the node of its history, in the run of the table
 pub enabled_by : (run at : Run) (v : View) (l : ℕ) (h : History) → at ≡ run → h.node ≡ l

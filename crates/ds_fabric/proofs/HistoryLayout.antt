@@ -252,38 +252,40 @@ module _ (run : Run) (ts : ℕ → List ℕ) (l : ℕ) where
       ∙ (ap (λ (xs : List ℕ). get_or xs i 0) (new_row-opens run l g (opens_even run l g low even))
       ∙ (get-row run l (opened run l g + 1) i inside ∙ ap (λ (x : ℕ). value run l x i) turn))
 
-  -- there is room for the next firing, where its event is below the limit
-  pub told_fits : (f : ℕ) → turns run (next run l f) f < run.limit
-      → length (turns_told run ts l f) + length (new_row run l f) < run.limit * stride_of run l
-  told_fits f below = let s : ℕ = stride_of run l in let k : ℕ = f / 2 in
+  -- what the next firing tells follows in the turn of its event, and the turn has room for it
+  pub told_place : (f : ℕ) → (length (turns_told run ts l f)
+      ≡ turns run (next run l f) f * stride_of run l
+      + cond (opens run (next run l f)) 0 (stride_of run l - 1))
+      × (cond (opens run (next run l f)) 0 (stride_of run l - 1) + (length (new_row run l f) + 1)
+      ≤ stride_of run l)
+  told_place f = let s : ℕ = stride_of run l in let e : ℕ = next run l f in
+      let place : (b : Bool) → opens run e ≡ b → cond (opens run e) 0 (s - 1) ≡ cond b 0 (s - 1) =
+      λ b o. ap (λ x. cond x 0 (s - 1)) o in
       dite (dec_lt l run.design_nodes)
       (λ low. let n = next-low run l f low in let wide = stride-low run l low in
-      let t = turns-low run (next run l f) f (omega arith) in
-      let less : suc k ≤ run.limit = omega arith in
-      let many = mul-le-mul_right {m = suc k} {n = run.limit} s less in
+      let t = turns-low run e f (omega arith) in let k : ℕ = f / 2 in
+      let turn : turns run e f ≡ k = omega arith in
+      let many : turns run e f * s ≡ k * s = ap (λ (x : ℕ). x * s) turn in
       dite (ℕ_discrete (f % 2) 0)
-      (λ even. omega (
-        arith,
-        many,
-        suc-mul k s,
-        length-turns k f s low wide (omega arith),
-        length-even run l f low even,
+      (λ even. let p = place true (opens_even run l f low even) in
+      let long = length-even run l f low even in (
+        omega (arith, p, many, length-turns k f s low wide (omega arith)),
+        omega (arith, p, long, wide),
       ))
-      (λ odd. omega (
-        arith,
-        many,
-        suc-mul k s,
-        length-open k f s low wide (omega arith),
-        length-other run l f (λ _ even. absurd (odd even)),
+      (λ odd. let o : opens run e ≡ false = by_bool (opens run e ≡ false) (opens run e)
+      (λ y. absurd (odd (even_opens run l f y).1)) (λ no. no) in let p = place false o in
+      let long = length-other run l f (λ _ even. absurd (odd even)) in (
+        omega (arith, p, many, wide, length-open k f s low wide (omega arith)),
+        omega (arith, p, long, wide),
       )))
-      (λ high. let high-l : run.design_nodes ≤ l = omega arith in let n = next-high run l f high-l in
-      let one : run.limit * s ≡ run.limit =
-      ap (λ (x : ℕ). run.limit * x) (stride-high run l high-l) ∙ omega arith in
-      omega (
-        arith,
-        turns-high run (next run l f) f (omega arith),
-        length-single f high-l,
-        length-other run l f (λ low even. absurd (omega arith)),
+      (λ high. let high-l : run.design_nodes ≤ l = omega arith in
+      let n = next-high run l f high-l in let wide = stride-high run l high-l in
+      let p = place false (opens-high run e (omega arith)) in
+      let long = length-other run l f (λ low even. absurd (omega arith)) in
+      let one : turns run e f * s ≡ turns run e f = ap (λ (x : ℕ). turns run e f * x) wide
+      ∙ omega arith in (
+        omega (arith, p, wide, one, turns-high run e f (omega arith), length-single f high-l),
+        omega (arith, p, long, wide),
       ))
 
 -- the same tickets are told alike

@@ -4,7 +4,8 @@ use Rattle.std.proofs.Common.{[], ◌∷◌, ◌++◌, length}
 use Rattle.std.proofs.Common.{get_or, set, sym, refl, ap, ◌∙◌, subst, arith, le_trans}
 use Rattle.std.proofs.Common.{le_of_eq, length-set}
 use Rattle.std.proofs.Common.{get_or-set_other, get_or-set_same, length-append}
-use Rattle.std.proofs.Common.{⊎_elim}
+use Rattle.std.proofs.Common.{⊎_elim, ◌⊎◌, inl, inr, false, ◌-◌, vec_capacity}
+use Rattle.std.proofs.lemmas.List.{append_assoc}
 use Rattle.std.proofs.Common.{zero, ◌/◌, ◌*◌, cond, eq-eqb, ne_eqb}
 use Rattle.ds_rule.proofs.EventLaws.{opened-low}
 use mathlib.Core.Logic.{dite}
@@ -17,7 +18,7 @@ use Rattle.ds_rule.specs.Run.{count, IsEnabledInRun}
 use Rattle.ds_rule.specs.Rule.{holds, tickets, seen}
 use Rattle.ds_rule.specs.Plays.{Sat, after_depart, after_draw, after_publish}
 use Rattle.ds_rule.specs.declared.view.View.{View}
-use Rattle.ds_rule.proofs.GetElemLemmas.{same_at, set_there, apart_set, at_below, has_below}
+use Rattle.ds_rule.proofs.GetElemLemmas.{same_at, set_there, apart_set, at_below, has_below, by_bool}
 use Rattle.ds_rule.proofs.GraphLaws.{enabled_same}
 use Rattle.ds_rule.proofs.EventLaws.{node-next, turns-next, turns-other, event_below}
 use Rattle.ds_rule.proofs.EventLaws.{even_opens, next-opens, turns-opening, node-opening}
@@ -26,11 +27,13 @@ use Rattle.ds_fabric.specs.Looks.{LooksOn}
 use Rattle.ds_fabric.specs.HistoryList.{stride_of, new_row, turns_told, StandsAt, words_of}
 use Rattle.ds_fabric.specs.HistoryList.{room_of}
 use Rattle.ds_fabric.specs.declared.histories.Histories.{Histories}
-use Rattle.ds_fabric.specs.Noted.{HasFired}
-use Rattle.ds_fabric.specs.Showing.{Tells, Keeps}
+use Rattle.ds_fabric.specs.HistoryList.{turn_of, offset_of, start_of, end_of}
+use Rattle.ds_fabric.specs.Noted.{IsNoted, HasFired}
+use Rattle.ds_fabric.specs.Showing.{Tells, Keeps, AreBeside, AreSideBySide}
 use Rattle.ds_fabric.specs.Stepped.{FiresNext, done, seen_at_departure}
 use Rattle.ds_fabric.proofs.LoadedViews.{has_after}
-use Rattle.ds_fabric.proofs.HistoryLayout.{told_same, told_fires}
+use Rattle.ds_fabric.proofs.HistoryLayout.{told_same, told_fires, told_place}
+use Rattle.ds_fabric.proofs.WordsInLists.{stands_more, stands_else}
 
 -- the history of a node, beside another view that says the same of the node
 pub tells_moved : (v w : View) (h : History) (words : List ℕ) (room : ℕ) → Tells v h words room
@@ -116,83 +119,200 @@ seen-landed v l t x near is = ap (seen (landed v l t)) is
 seen-else : (v : View) (l t x : ℕ) → x ≢ l → seen (landed v l t) x ≡ seen v x
 seen-else v l t x n = get_or-set_other v.seen l x (seen v l + 1) 0 n
 
+-- what the firing told stands in the list of its history
+told_more : (R : Run) (ts us : ℕ → List ℕ) (l seen' ticket : ℕ) (s t : Histories) (g h : History)
+    → g.node ≡ l → g.fired ≡ seen' → g.stride ≡ stride_of R l
+    → StandsAt (words_of s g) g.first g.stride g.step (turns_told R ts l seen')
+    → IsNoted R s t g h (new_row R g.node g.fired ++ ticket ∷ [])
+    → turns_told R us l (seen' + 1)
+    ≡ (turns_told R ts l seen' ++ new_row R l seen') ++ ticket ∷ []
+    → StandsAt (words_of t h) h.first h.stride h.step (turns_told R us l (seen' + 1))
+told_more R ts us l seen' ticket s t g h node fired stride st f told =
+    let f' : ℕ = g.fired in let x : ℕ = g.node in
+    let P : ℕ → ℕ → Type 0 = λ y n. StandsAt (words_of s g) g.first g.stride g.step
+    (turns_told R ts y n) in
+    let at-g = subst (λ (y : ℕ). P y f') (sym node) (subst (P l) (sym fired) st) in
+    let p = told_place R ts x f' in let more : List ℕ = new_row R x f' ++ ticket ∷ [] in
+    let wide : g.stride ≡ stride_of R x = stride ∙ ap (stride_of R) (sym node) in
+    let k : ℕ = turns R (next R x f') f' in
+    let k-is : k * g.stride ≡ k * stride_of R x = ap (λ (y : ℕ). k * y) wide in
+    let o-is : offset_of R g ≡ cond (opens R (next R x f')) 0 (stride_of R x - 1) =
+    ap (λ (y : ℕ). cond (opens R (next R x f')) 0 (y - 1)) wide in
+    let next-told = stands_more (words_of s g) (words_of t h) g.first g.stride g.step k
+    (offset_of R g) (start_of R g) (end_of R g) (turns_told R ts x f') more at-g f.written
+    (omega (arith, p.0, k-is, o-is)) refl refl
+    (omega (arith, p.1, o-is, wide, length-append (new_row R x f') (ticket ∷ []))) in
+    let same : turns_told R ts x f' ++ more ≡ turns_told R us l (seen' + 1) =
+    sym (append_assoc (turns_told R ts x f') (new_row R x f') (ticket ∷ []))
+    ∙ (ap (λ (y : ℕ). (turns_told R ts y f' ++ new_row R y f') ++ ticket ∷ []) node
+    ∙ (ap (λ (y : ℕ). (turns_told R ts l y ++ new_row R l y) ++ ticket ∷ []) fired ∙ sym told)) in
+    subst (λ (y : ℕ). StandsAt (words_of t h) h.first h.stride y (turns_told R us l (seen' + 1)))
+    (sym f.step)
+    (subst (λ (y : ℕ). StandsAt (words_of t h) h.first y g.step (turns_told R us l (seen' + 1)))
+    (sym f.stride)
+    (subst (λ (y : ℕ). StandsAt (words_of t h) y g.stride g.step (turns_told R us l (seen' + 1)))
+    (sym f.first)
+    (subst (StandsAt (words_of t h) g.first g.stride g.step) same next-told)))
+
+-- a history beside it has its words and its room still
+beside_stays : (v : View) (s t : Histories) (g h x : History) (told : List ℕ) → t.apart ≡ s.apart
+    → (s.apart ≡ false → AreBeside x g) → h.first + h.stride ≤ h.step
+    → IsNoted v.run s t g h told → offset_of v.run g + length told ≤ g.stride
+    → Tells v x (words_of s x) (room_of s x) → Tells v x (words_of t x) (room_of t x)
+beside_stays v s t g h x told apart beside inside f fits o =
+    let R : Run = v.run in by_bool (Tells v x (words_of t x) (room_of t x)) s.apart
+    (λ own. let own' = apart ∙ own in
+    let words : words_of t x ≡ words_of s x = ap (λ b. cond b x.own.items t.together.items) own'
+    ∙ sym (ap (λ b. cond b x.own.items s.together.items) own) in
+    let room : room_of t x ≡ room_of s x =
+    ap (λ b. cond b (vec_capacity x.own) (vec_capacity t.together)) own'
+    ∙ sym (ap (λ b. cond b (vec_capacity x.own) (vec_capacity s.together)) own) in
+    subst (λ (ws : List ℕ). Tells v x ws (room_of t x)) (sym words)
+    (subst (Tells v x (words_of s x)) (sym room) o))
+    (λ one. let one' = apart ∙ one in let b = beside one in
+    let old : words_of s x ≡ words_of s g = ap (λ b. cond b x.own.items s.together.items) one
+    ∙ sym (ap (λ b. cond b g.own.items s.together.items) one) in
+    let new : words_of t x ≡ words_of t h = ap (λ b. cond b x.own.items t.together.items) one'
+    ∙ sym (ap (λ b. cond b h.own.items t.together.items) one') in
+    let room-old : room_of s x ≡ room_of s g =
+    ap (λ b. cond b (vec_capacity x.own) (vec_capacity s.together)) one
+    ∙ sym (ap (λ b. cond b (vec_capacity g.own) (vec_capacity s.together)) one) in
+    let room-new : room_of t x ≡ room_of t h =
+    ap (λ b. cond b (vec_capacity x.own) (vec_capacity t.together)) one'
+    ∙ sym (ap (λ b. cond b (vec_capacity h.own) (vec_capacity t.together)) one') in
+    let told-x : List ℕ = turns_told R (tickets v) x.node (seen v x.node) in
+    let P : List ℕ → Type 0 = λ ws. StandsAt ws x.first x.stride x.step told-x in
+    let k : ℕ = turn_of R g in
+    let start-is : start_of R g ≡ k * x.step + g.first + offset_of R g =
+    ap (λ (y : ℕ). k * y + g.first + offset_of R g) (sym b.0) in
+    record {
+      has = o.has;
+      fired = o.fired;
+      stride = o.stride;
+      turns = subst P (sym new) (stands_else (words_of s g) (words_of t h) x.first x.stride x.step
+          k (offset_of R g) (start_of R g) (end_of R g) g.first g.stride told-x told
+          (subst P old o.turns) f.written start-is fits
+          (omega (arith, b.0, inside, f.first, f.stride, f.step)) b.1);
+      fits = omega (arith, o.fits, room-old, room-new, f.room);
+    })
+
+-- a history that is put back stands beside the others still
+beside_set : (nodes : List History) (i : ℕ) (h h' : History) → get_elem? nodes i ≡ some h
+    → h'.first ≡ h.first → h'.stride ≡ h.stride → h'.step ≡ h.step → AreSideBySide nodes
+    → AreSideBySide (set nodes i h')
+beside_set nodes i h h' at first stride step old j j' g g' a a' n = ⊎_elim
+    (λ e. ⊎_elim (λ e'. absurd (n (e.0 ∙ sym e'.0)))
+    (λ e'. let b = old i j' h g' at e'.1 (λ z. n (e.0 ∙ z)) in
+    subst (λ (x : History). AreBeside x g') e.1 (step ∙ b.0, ⊎_elim
+    (λ y. inl (omega (arith, first, stride, y))) (λ y. inr (omega (arith, first, y))) b.1))
+    (at_set nodes i j' h' g' a'))
+    (λ e. ⊎_elim (λ e'. let b = old j i g h e.1 at (λ z. n (z ∙ sym e'.0)) in
+    subst (AreBeside g) e'.1 (b.0 ∙ sym step, ⊎_elim
+    (λ y. inl (omega (arith, first, y))) (λ y. inr (omega (arith, first, stride, y))) b.1))
+    (λ e'. old j j' g g' e.1 e'.1 n) (at_set nodes i j' h' g' a'))
+    (at_set nodes i j h' g a)
+
 -- a firing keeps what a pass has in memory
-pub fires_keep : (me me' : Sat) (nodes : List History) (i : ℕ) (h h' : History) (t : ℕ)
-    → Keeps me nodes → get_elem? nodes i ≡ some h → me' ≡ (landed me.0 h.node t, me.1)
-    → HasFired me.0.run h h' t → Keeps me' (set nodes i h')
-fires_keep me me' nodes i h h' t k at is f =
-    let v : View = me.0 in let l : ℕ = h.node in let w : View = landed v l t in
+pub fires_keep : (me me' : Sat) (s t : Histories) (i ticket : ℕ) (h : History) → Keeps me s
+    → get_elem? s.nodes.items i ≡ some h → me' ≡ (landed me.0 h.node ticket, me.1)
+    → HasFired me.0.run s t i ticket h → Keeps me' t
+fires_keep me me' s t i ticket h k at is fired =
+    let v : View = me.0 in let l : ℕ = h.node in let w : View = landed v l ticket in
     let R : Run = v.run in let E : ℕ = coming v l in
+    let nodes : List History = s.nodes.items in let h' : History = fired.told.new in
+    let f : IsNoted R s t h h' (new_row R h.node h.fired ++ ticket ∷ []) =
+    subst (λ (x : History). IsNoted R s t x h' (new_row R h.node h.fired ++ ticket ∷ []))
+    fired.old_is fired.told.noted in
+    let into : (j : ℕ) (x : History) → get_elem? t.nodes.items j ≡ some x
+    → get_elem? (set nodes i h') j ≡ some x = λ j x e.
+    subst (λ (ys : List History). get_elem? ys j ≡ some x) fired.told.nodes e in
+    let onto : (j : ℕ) (x : History) → get_elem? (set nodes i h') j ≡ some x
+    → get_elem? t.nodes.items j ≡ some x = λ j x e.
+    subst (λ (ys : List History). get_elem? ys j ≡ some x) (sym fired.told.nodes) e in
     let old = k.listed i h at in
     let of-l : node_of R E ≡ l = node-next R l (seen v l) in
-    let near-E = near-event me nodes l k old.has in
+    let near-E = near-event me s l k old.has in
     let near-l : l < length v.seen = omega (
       arith,
       k.seen_long,
-      near-node me nodes l k old.has,
+      near-node me s l k old.has,
     ) in
     let counted : turns R E (seen v l) ≡ length (tickets v E) =
     ap (λ (y : ℕ). turns R E (seen v y)) (sym of-l) ∙ k.counts E (ap (holds v) of-l ∙ old.has) in
     let far : (x e : ℕ) → x ≢ l → node_of R e ≡ x
-    → tickets w e ≡ tickets v e = λ x e n on. tickets-else v l t e
+    → tickets w e ≡ tickets v e = λ x e n on. tickets-else v l ticket e
     (λ z. n (sym on ∙ (ap (node_of R) z ∙ of-l))) in
-    let new : Tells w h' = record {
+    let seen-new : seen w h'.node ≡ seen v l + 1 = seen-landed v l ticket h'.node near-l f.node in
+    let standing = told_more R (tickets v) (tickets w) l (seen v l) ticket s t h h' refl old.fired
+    old.stride old.turns f (told_fires R (tickets v) (tickets w) l (seen v l) ticket counted
+    (tickets-landed v l ticket E near-E refl) (λ e n. tickets-else v l ticket e n)) in
+    let new : Tells w h' (words_of t h') (room_of t h') = record {
       has = ap (holds v) f.node ∙ old.has;
-      fired = f.fired ∙ (ap (λ (x : ℕ). x + 1) old.fired
-          ∙ sym (seen-landed v l t h'.node near-l f.node));
+      fired = f.fired ∙ (ap (λ (x : ℕ). x + 1) old.fired ∙ sym seen-new);
       stride = f.stride ∙ (old.stride ∙ ap (stride_of R) (sym f.node));
-      turns = f.turns ∙ (ap (λ (xs : List ℕ). (xs ++ new_row R l h.fired) ++ t ∷ []) old.turns
-          ∙ (ap (λ (x : ℕ). (turns_told R (tickets v) l (seen v l) ++ new_row R l x) ++ t ∷ []) old.fired
-          ∙ (sym (told_fires R (tickets v) (tickets w) l (seen v l) t counted
-          (tickets-landed v l t E near-E refl) (λ e n. tickets-else v l t e n))
-          ∙ (ap (turns_told R (tickets w) l) (sym (seen-landed v l t l near-l refl))
-          ∙ ap (λ (x : ℕ). turns_told R (tickets w) x (seen w x)) (sym f.node)))));
-      room = subst (λ (x : ℕ). HasHistoryRoom R x h') (sym f.node) (record {
-        turns = omega (arith, old.room.turns, f.turns_room);
-        from = omega (arith, old.room.from, f.from_room);
-      });
+      turns = subst (λ (x : ℕ). StandsAt (words_of t h') h'.first h'.stride h'.step
+          (turns_told R (tickets w) x (seen w x))) (sym f.node)
+          (subst (λ (x : ℕ). StandsAt (words_of t h') h'.first h'.stride h'.step
+          (turns_told R (tickets w) l x)) (sym (seen-landed v l ticket l near-l refl)) standing);
+      fits = omega (arith, old.fits, ap (λ (x : ℕ). R.limit * x) f.step, f.room);
     } in
-    let P : Sat → Type 0 = λ m. Keeps m (set nodes i h') in
+    let place = told_place R (tickets v) h.node h.fired in
+    let fits : offset_of R h + length (new_row R h.node h.fired ++ ticket ∷ []) ≤ h.stride =
+    omega (
+      arith,
+      place.1,
+      old.stride,
+      ap (λ (y : ℕ). cond (opens R (next R h.node h.fired)) 0 (y - 1)) old.stride,
+      length-append (new_row R h.node h.fired) (ticket ∷ []),
+    ) in
+    let P : Sat → Type 0 = λ m. Keeps m t in
     subst P (sym is) (record {
       no_slot = k.no_slot;
       live = k.live;
       idle = refl;
       held_long = k.held_long;
-      tickets_long = length-set v.tickets E (tickets v E ++ t ∷ []) ∙ k.tickets_long;
+      tickets_long = length-set v.tickets E (tickets v E ++ ticket ∷ []) ∙ k.tickets_long;
       seen_long = length-set v.seen l (seen v l + 1) ∙ k.seen_long;
       among = k.among;
       counts = λ e hx. let x : ℕ = node_of R e in dite (ℕ_discrete x l)
-          (λ on. ap (turns R e) (seen-landed v l t x near-l on) ∙ dite (ℕ_discrete e E)
+          (λ on. ap (turns R e) (seen-landed v l ticket x near-l on) ∙ dite (ℕ_discrete e E)
           (λ z. omega (
             arith,
             ap (λ (y : ℕ). turns R y (seen v l + 1)) z,
             turns-next R l (seen v l),
             counted,
-            ap length (tickets-landed v l t e near-E z),
-            length-append (tickets v E) (t ∷ []),
+            ap length (tickets-landed v l ticket e near-E z),
+            length-append (tickets v E) (ticket ∷ []),
           ))
           (λ z. turns-other R e l (seen v l) on z ∙ (ap (λ (y : ℕ). turns R e (seen v y)) (sym on)
-          ∙ (k.counts e hx ∙ ap length (sym (tickets-else v l t e z))))))
-          (λ off. ap (turns R e) (seen-else v l t x off)
+          ∙ (k.counts e hx ∙ ap length (sym (tickets-else v l ticket e z))))))
+          (λ off. ap (turns R e) (seen-else v l ticket x off)
           ∙ (k.counts e hx ∙ ap length (sym (far x e off refl))));
       listed = λ j g at'. ⊎_elim
-          (λ e. subst (λ (x : History). Tells w x) e.1 new)
+          (λ e. subst (λ (x : History). Tells w x (words_of t x) (room_of t x)) e.1 new)
           (λ e. let o = k.listed j g e.1 in let n : g.node ≢ l =
           λ same. e.0 (k.distinct j i g h e.1 at same) in
-          tells_moved v w g o refl o.has (seen-else v l t g.node n) (λ x on. far g.node x n on))
-          (at_set nodes i j h' g at');
+          tells_moved v w g (words_of t g) (room_of t g)
+          (beside_stays v s t h h' g (new_row R h.node h.fired ++ ticket ∷ []) fired.told.apart
+          (λ one. k.beside one j i g h e.1 at e.0) new.turns.inside f fits o)
+          refl o.has (seen-else v l ticket g.node n) (λ x on. far g.node x n on))
+          (at_set nodes i j h' g (into j g at'));
       found = λ x hx. let r = k.found x hx in dite (ℕ_discrete r.0 i)
           (λ e. (
             i,
             h',
-            set_there nodes i h h' at,
+            onto i h' (set_there nodes i h h' at),
             f.node
                 ∙ (ap (λ (y : History). y.node) (same_at nodes i h r.1 at
                 (subst (λ j. get_elem? nodes j ≡ some r.1) e r.2)) ∙ r.3),
           ))
-          (λ n. (r.0, r.1, set_else nodes i r.0 h' n ∙ r.2, r.3));
+          (λ n. (r.0, r.1, onto r.0 r.1 (set_else nodes i r.0 h' n ∙ r.2), r.3));
       distinct = λ j j' g g' a a' same. apart_set (λ
-          (x : History). x.node) nodes i h h' at f.node k.distinct j j' g g' a a' same;
+          (x : History). x.node) nodes i h h' at f.node k.distinct j j' g g' (into j g a)
+          (into j' g' a') same;
+      beside = λ one j j' g g' a a' n. beside_set nodes i h h' at f.first f.stride f.step
+          (k.beside (sym fired.told.apart ∙ one)) j j' g g' (into j g a) (into j' g' a') n;
+      all = λ one x near. k.all (sym fired.told.apart ∙ one) x near;
     })
 
 -- what was seen at departure: of the node itself what was seen before, of others what is seen
@@ -284,14 +404,6 @@ within run v l f is o on =
     (node-opening run l even.0)
     ∙ (turns-opening run l (seen v l) even.0 ∙ ap (opened run l) (sym is))) in
     (even.0, omega (arith, on.below, is-count, opened-low run l f even.0))
-
--- a history put where it stands
-pub set_same : (nodes : List History) (i : ℕ) (h : History) → get_elem? nodes i ≡ some h
-    → set nodes i h ≡ nodes
-set_same [] i h at = refl
-set_same (x ∷ xs) zero h at = ap (λ (y : History). y ∷ xs)
-    (sym (mathlib.Core.Option.some-injective x h at))
-set_same (x ∷ xs) (suc i) h at = ap (λ ys. x ∷ ys) (set_same xs i h at)
 
 -- the next event of a node is one of the events
 pub next_below : (run : Run) (l f : ℕ) → run.design_nodes ≤ run.nodes → l < run.nodes

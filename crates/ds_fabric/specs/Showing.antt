@@ -87,7 +87,8 @@ pub record IsLeft (old : Showing) (node : ℕ) (p : Showing) : Type 0 where
 
 -- the words of two histories stand in two parts of each turn of a list
 abbrev pub AreBeside : History → History → Type 0
-AreBeside g h = (g.first + g.stride ≤ h.first) ⊎ (h.first + h.stride ≤ g.first)
+AreBeside g h = (g.step ≡ h.step)
+    × ((g.first + g.stride ≤ h.first) ⊎ (h.first + h.stride ≤ g.first))
 
 -- the words of each two of the histories do
 abbrev pub AreSideBySide : List History → Type 0

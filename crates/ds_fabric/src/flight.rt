@@ -265,10 +265,11 @@ fn open_row<V: RunValues, C: Compute>(
         turn: opening.turn,
     };
     read_rows(context, &learnt, seat, node, &mut buffers.from);
+    let from = buffers.from.as_slice();
     context.openings.compute(
         LatchId::new(node as u32),
         opening.turn,
-        buffers.from.as_slice(),
+        from,
         scratch,
         &mut buffers.told,
     );

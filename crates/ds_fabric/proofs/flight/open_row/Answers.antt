@@ -22,11 +22,11 @@ compute-requires-clause-turn g c = let (opening, _) = c.requires.flight in let (
 
 pub compute-requires-clause-from : goal.compute-requires-clause-from
 compute-requires-clause-from g c =
-    let k : ℕ = c.args.turn in let at : Run = g.C.Compute.run c.args.context.now.openings.now in
+    let k : ℕ = c.args.opening.turn in let at : Run = g.C.Compute.run c.args.context.now.openings.now in
     let learnt : ℕ → Bool = λ p. g.C.Compute.has_learnt c.args.context.now.openings.now
     c.args.scratch.now p k in
     c.as_slice-from.ensures.value ∙ (c.read_rows.ensures.value
-    ∙ (ap (λ (r : Run). supply_but r learnt c.args.history.now.node k (length r.edges))
+    ∙ (ap (λ (r : Run). supply_but r learnt c.args.opening.node k (length r.edges))
     (sym c.args.context.now.computes)
     ∙ ap (λ (l : ℕ). supply_but at learnt l k (length at.edges)) (sym c.new.ensures)))
 

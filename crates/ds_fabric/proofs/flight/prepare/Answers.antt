@@ -35,7 +35,7 @@ open_row-requires-clause-flight g c = let (to, _) = c.if-opens_next.ensures in l
         near = q.near;
         begins = ap (λ (x : ℕ). opens run (next run x (seen v x))) q.node_is
             ∙ (ap (λ (f : ℕ). opens run (next run l f)) (sym fired) ∙ h);
-        number = turn run l c.args.history.now.fired c.turns-turn.result c.turns-turn.ensures h
+        number = turn run l c.args.history.now.fired c.turns.result c.turns.ensures h
             ∙ ap (λ (f : ℕ). opened run l f + 1) fired;
       },
       record {
@@ -51,23 +51,20 @@ pub open_row-requires-clause-within : goal.open_row-requires-clause-within
 open_row-requires-clause-within g c = let (to, _) = c.if-opens_next.ensures in
     let w = within c.args.context.now.run.now c.args.seat.now.me.0 c.args.history.now.node c.args.history.now.fired
     c.requires.flight.count (to refl) c.requires.flight.enabled in
-    (w.0, omega (arith, c.turns-turn.ensures, w.1))
+    (w.0, omega (arith, c.turns.ensures, w.1))
 
 pub open_row-requires-clause-room : goal.open_row-requires-clause-room
-open_row-requires-clause-room g c = let (to, _) = c.if-opens_next.ensures in let run : Run = c.args.context.now.run.now in
-    let l : ℕ = c.args.history.now.node in let f : ℕ = c.args.history.now.fired in
-    let even = even_opens run l f (to refl) in record {
-      turns = omega (arith, length-even run l f even.0 even.1, c.requires.room.turns);
-      from = c.requires.room.from;
-    }
+open_row-requires-clause-room g c = record {
+  from = c.requires.room.from;
+  told = omega (arith, c.clear.ensures.capacity, c.requires.room.told);
+}
 
-pub returns-then-opens_next-clause-turns : goal.returns-then-opens_next-clause-turns
-returns-then-opens_next-clause-turns g c = let (to, _) = c.if-opens_next.ensures in let run : Run = c.args.context.now.run.now in
-    let l : ℕ = c.args.history.now.node in let f : ℕ = c.args.history.now.fired in
-    let h = to refl in
-    c.open_row.ensures.value
-    ∙ ap (λ (xs : List ℕ). c.args.history.now.turns.items ++ xs)
-    (ap (row run l) (turn run l f c.turns-turn.result c.turns-turn.ensures h) ∙ sym (new_row-opens run l f h))
+pub returns-then-opens_next-clause-told : goal.returns-then-opens_next-clause-told
+returns-then-opens_next-clause-told g c = let (to, _) = c.if-opens_next.ensures in
+    let run : Run = c.args.context.now.run.now in
+    let l : ℕ = c.args.history.now.node in let f : ℕ = c.args.history.now.fired in let h = to refl in
+    c.open_row.ensures.told ∙ (ap (row run l) (turn run l f c.turns.result c.turns.ensures h)
+    ∙ sym (new_row-opens run l f h))
 
 pub returns-then-opens_next-clause-me : goal.returns-then-opens_next-clause-me
 returns-then-opens_next-clause-me g c = (
@@ -77,17 +74,13 @@ returns-then-opens_next-clause-me g c = (
 
 pub returns-then-opens_next-clause-flight : goal.returns-then-opens_next-clause-flight
 returns-then-opens_next-clause-flight g c = let run : Run = c.args.context.now.run.now in
-    let h : History = c.open_row.new.history in let q = c.open_row.ensures in
-    subst (λ (x : Sat). IsInFlight run x.0 h.node h.fired) (sym q.me)
-    (still_flies run c.args.seat.now.me.0 c.args.history.now.node h.node c.args.history.now.fired
-    h.fired (width run c.args.history.now.node) c.requires.flight q.same.node q.same.fired)
+    let l : ℕ = c.args.history.now.node in let f : ℕ = c.args.history.now.fired in
+    subst (λ (x : Sat). IsInFlight run x.0 l f) (sym c.open_row.ensures.me)
+    (still_flies run c.args.seat.now.me.0 l l f f (width run l) c.requires.flight refl refl)
 
 pub returns-then-opens_next-clause-written : goal.returns-then-opens_next-clause-written
-returns-then-opens_next-clause-written g c = λ _. let q = c.open_row.ensures in omega (
-  arith,
-  ap (λ (x : Sat). x.0.written) q.me,
-  ap (width c.args.context.now.run.now) q.same.node,
-)
+returns-then-opens_next-clause-written g c = λ _.
+    omega (arith, ap (λ (x : Sat). x.0.written) c.open_row.ensures.me)
 
 pub returns-else-opens_next-clause-me : goal.returns-else-opens_next-clause-me
 returns-else-opens_next-clause-me g c = (
@@ -102,10 +95,9 @@ pub returns-else-opens_next-clause-written : goal.returns-else-opens_next-clause
 returns-else-opens_next-clause-written g c = let (_, from) = c.if-opens_next.ensures in
     λ h. absurd (false≢true (from h))
 
-pub returns-else-opens_next-clause-turns : goal.returns-else-opens_next-clause-turns
-returns-else-opens_next-clause-turns g c = let (_, from) = c.if-opens_next.ensures in let run : Run = c.args.context.now.run.now in
+pub returns-else-opens_next-clause-told : goal.returns-else-opens_next-clause-told
+returns-else-opens_next-clause-told g c = let (_, from) = c.if-opens_next.ensures in
+    let run : Run = c.args.context.now.run.now in
     let l : ℕ = c.args.history.now.node in let f : ℕ = c.args.history.now.fired in
-    let old : List ℕ = c.args.history.now.turns.items in
-    let none : new_row run l f ≡ [] = by_bool (new_row run l f ≡ []) (opens run (next run l f))
-    (λ h. absurd (false≢true (from h))) (λ h. new_row-else run l f h) in
-    sym (ap (λ (xs : List ℕ). old ++ xs) none ∙ append-nil old)
+    c.clear.ensures.items ∙ by_bool ([] ≡ new_row run l f) (opens run (next run l f))
+    (λ h. absurd (false≢true (from h))) (λ h. sym (new_row-else run l f h))
