@@ -1,6 +1,8 @@
 -- The next event of a node: what is known of it, and what its flight asks.
 use Rattle.std.proofs.Common.{◌≡◌, ℕ, suc, ◌+◌, ◌*◌, ◌<◌, ◌≤◌, true, List, length}
-use Rattle.std.proofs.Common.{sym, refl, ap, ◌∙◌, subst, arith}
+use Rattle.std.proofs.Common.{sym, refl, ap, ◌∙◌, subst, arith, cond, ◌-◌, vec_capacity}
+use mathlib.Core.Logic.{dite}
+use native.Mathlib.Decide.{dec_lt}
 use Rattle.std.proofs.Math.Nat.{mul-le-mul_right}
 use mathlib.Core.Option.{none, some}
 use lib.ListN.{get_elem?}
@@ -11,6 +13,8 @@ use Rattle.ds_rule.specs.Sound.{IsSound}
 use Rattle.ds_rule.specs.Rule.{Lawful, holds, tickets, seen}
 use Rattle.ds_rule.specs.Plays.{Sat, after_draw, published}
 use Rattle.ds_rule.specs.declared.view.View.{View}
+use Rattle.ds_rule.specs.declared.event_role.EventRole.{EventRole}
+use Rattle.ds_rule.proofs.GetElemLemmas.{by_bool}
 use Rattle.ds_rule.proofs.EventLaws.{node-next, fired_most}
 use Rattle.ds_rule.proofs.GraphLaws.{event_there}
 use Rattle.ds_rule.proofs.Publishes.{publishes}
@@ -18,11 +22,15 @@ use Rattle.ds_fabric.specs.Base.{IsInFlight, HasWritten}
 use Rattle.ds_fabric.specs.declared.history.History.{History}
 use Rattle.ds_fabric.specs.declared.histories.Histories.{Histories}
 use Rattle.ds_fabric.specs.Armed.{IsArmed}
-use Rattle.ds_fabric.specs.Flight.{HasRoomFor, HasRoomToFire}
+use Rattle.ds_fabric.specs.Flight.{HasRoomFor, HasRoomToFire, HasSameRoom}
+use Rattle.ds_fabric.specs.Noted.{IsNextRole, HasRoomToNote}
+use Rattle.ds_fabric.specs.declared.buffers.Buffers.{Buffers}
 use Rattle.ds_fabric.specs.Looks.{LooksOn, Enough}
-use Rattle.ds_fabric.specs.HistoryList.{end_of, turn_of, words_of, room_of}
+use Rattle.ds_fabric.specs.HistoryList.{end_of, turn_of, offset_of, words_of, room_of}
+use Rattle.ds_fabric.specs.HistoryList.{stride_of, new_row}
 use Rattle.ds_fabric.specs.Showing.{Tells, Keeps, IsPass}
 use Rattle.ds_fabric.specs.Stepped.{done}
+use Rattle.ds_fabric.proofs.HistoryLayout.{stride-low, stride-high, told_place}
 use Rattle.ds_fabric.proofs.PassMemory.{looks_keep, near-node, next_below}
 
 -- a node that is held is one of the run
@@ -136,6 +144,12 @@ arms run me me' s i h event before run_is k buffers at among e n below looks slo
     (is_ready run u l event (before + 1) among (near_run run me' s l run_is' k' t.has)
     event_is turn_is (omega (arith, below)) enough)
 
+-- a turn of a node has a word at least
+pub some_word : (run : Run) (l : ℕ) → 0 < stride_of run l
+some_word run l = dite (dec_lt l run.design_nodes)
+    (λ low. omega (arith, stride-low run l low))
+    (λ high. omega (arith, stride-high run l (omega arith)))
+
 -- the firings of the node stay far below 64 bits
 pub few : (run : Run) (v : View) (l f : ℕ) → run.limit < 4611686018427387904 → f ≡ seen v l
     → IsEnabledInRun run (seen v) (next run l f) → f + 1 < 9223372036854775808
@@ -183,3 +197,40 @@ pub enabled_by : (run at : Run) (v : View) (l : ℕ) (h : History) → at ≡ ru
 enabled_by run at v l h run_is node on =
     subst (λ (r : Run). IsEnabledInRun r (seen v) (next r h.node (seen v h.node))) (sym run_is)
     (subst (λ (x : ℕ). IsEnabledInRun run (seen v) (next run x (seen v x))) (sym node) on)
+
+-- what the event told has room in its buffer and in its list
+pub can_note : (run : Run) (v : View) (s : Histories) (b : Buffers) (at : ℕ) (h : History)
+    (role : EventRole) → IsSound run → IsArmed run v s at h
+    → b.told.items ≡ new_row run h.node h.fired → HasSameRoom s.buffers b
+    → IsNextRole run h role → HasRoomToNote run (record s { buffers = b }) at role
+can_note run v s b at h role sound a told room next-is =
+    let l : ℕ = h.node in let f : ℕ = h.fired in let r = a.room in
+    let place = told_place run (tickets v) l f in
+    let long : length b.told.items ≡ length (new_row run l f) = ap (λ (xs : List ℕ). length xs) told in
+    let offset : offset_of run h ≡ cond (opens run (next run l f)) 0 (stride_of run l - 1) =
+    ap (λ (x : ℕ). cond (opens run (next run l f)) 0 (x - 1)) r.stride in record {
+      history = h;
+      there = a.there;
+      role_is = next-is;
+      few = omega (arith, few run v l f sound.short a.fired a.ready);
+      span = record {
+        wide = omega (arith, r.stride, some_word run l);
+        inside = r.inside;
+        small = by_bool (end_of run h < 18446744073709551616) s.apart
+            (λ own. omega (
+              arith,
+              r.room,
+              ap (λ x. cond x (vec_capacity h.own) (vec_capacity s.together)) own,
+              h.own.small,
+            ))
+            (λ one. omega (
+              arith,
+              r.room,
+              ap (λ x. cond x (vec_capacity h.own) (vec_capacity s.together)) one,
+              s.together.small,
+            ));
+      };
+      fits = omega (arith, place.1, long, offset, r.stride);
+      room = r.room;
+      buffer = omega (arith, place.1, long, room.told, r.buffers.told);
+    }

@@ -8,6 +8,7 @@ pub mod FiresIfEnabled
 pub mod HistoryTickets
 pub mod Finds
 pub mod Standing
+pub mod PassFirings
 pub mod DealAndGather
 pub mod Laying
 pub mod ArcChains
