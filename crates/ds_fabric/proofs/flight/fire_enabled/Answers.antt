@@ -1,8 +1,8 @@
-use Rattle.std.proofs.Common.{◌≡◌, ◌+◌, ℕ, ap, arith, refl, subst, sym}
+use Rattle.std.proofs.Common.{◌≡◌, ◌+◌, ◌∙◌, ℕ, ap, arith, refl, subst, sym, true}
 use mathlib.Core.Option.{some}
 use lib.ListN.{get_elem?}
 use Rattle.ds_rule.specs.Run.{Run, next, turns, IsEnabledInRun}
-use Rattle.ds_rule.specs.Rule.{seen}
+use Rattle.ds_rule.specs.Rule.{holds, seen}
 use Rattle.ds_rule.specs.Plays.{Sat}
 use Rattle.ds_rule.specs.declared.view.View.{View}
 use Rattle.ds_rule.proofs.EventLaws.{node-next}
@@ -11,7 +11,7 @@ use Rattle.ds_fabric.specs.Noted.{HasFired}
 use Rattle.ds_fabric.specs.Stepped.{done, FiresWith}
 use Rattle.ds_fabric.specs.declared.history.History.{History}
 use Rattle.ds_fabric.proofs.PassFirings.{pass_arms, fires_pass, fires_many}
-use Rattle.ds_fabric.proofs.PassMemory.{fires}
+use Rattle.ds_fabric.proofs.PassMemory.{fires, landed}
 use Rattle.ds_fabric.proofs.LoadedViews.{looks_none}
 use Rattle.ds_fabric.proofs.flight.fire_enabled.Goals as goal
 
@@ -32,14 +32,14 @@ returns-clause-fires g c l there =
     (same_at c.args.histories.now.nodes.items c.args.at there'.0 there.0 there'.1 there.1)
     ∙ there.2) in
     let on = subst (λ (x : ℕ). IsEnabledInRun run (seen v) (next run x (seen v x))) same on' in
-    let has = subst (λ (x : ℕ). Rattle.ds_rule.specs.Rule.holds v x ≡ Rattle.std.proofs.Common.true)
+    let has = subst (λ (x : ℕ). holds v x ≡ true)
     there.2 (p.keeps.listed c.args.at there.0 there.1).has in
     let E : ℕ = next run l (seen v l) in let e = c.fire.ensures in
     fires run me me c.args.histories.now c.fire.new.seat.me.0 l E (done run v l + 1) c.fire.result
     c.requires.run p.keeps has (looks_none v) refl refl refl
     (omega (arith, on.below, ap (λ (x : ℕ). turns run E (seen v x)) (node-next run l (seen v l))))
     on e.fresh (ap (λ (m : Sat). m.0) (subst (λ (x : ℕ). c.fire.new.seat.me
-    ≡ (Rattle.ds_fabric.proofs.PassMemory.landed v x c.fire.result, me.1)) there.2
+    ≡ (landed v x c.fire.result, me.1)) there.2
     (e.me there.0 there.1)))
 
 -- the history that is lent has fired
