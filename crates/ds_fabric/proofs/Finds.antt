@@ -36,6 +36,12 @@ pub stands_below : (ns zs : List History) (i l : ℕ) → zs ≡ ns → IsHistor
 stands_below ns zs i l e f =
     at_below ns i f.0 (subst (λ (xs : List History). get_elem? xs i ≡ some f.0) e f.1)
 
+-- the history that was found is that of the node, in the list that was looked through
+pub found_at : (ns zs : List History) (i l node : ℕ) → zs ≡ ns → l ≡ node → IsHistoryAt zs i l
+    → IsHistoryAt ns i node
+found_at ns zs i l node e n f =
+    (f.0, subst (λ (xs : List History). get_elem? xs i ≡ some f.0) e f.1, f.2 ∙ n)
+
 -- the history that was found is one of the pass
 pub there : (ns zs : List History) (i l : ℕ) (h : History) → zs ≡ ns → (x : History)
     × (get_elem? zs i ≡ some x) × (x.node ≡ l)
