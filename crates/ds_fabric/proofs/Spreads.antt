@@ -11,20 +11,24 @@ use Rattle.ds_rule.proofs.GetElemLemmas.{at_below, at_get, at_or, same_at, has_b
 use Rattle.ds_rule.proofs.LogCounts.{ticket_below, ticket_of_some, ticket_of_one, stands_at, node_inside, length-tickets_in_log}
 use Rattle.ds_rule.proofs.LogCounts.{length-firings}
 use Rattle.ds_fabric.specs.declared.history.History.{History}
-use Rattle.ds_fabric.specs.HistoryList.{ticket_in}
+use Rattle.ds_fabric.specs.declared.histories.Histories.{Histories}
+use Rattle.ds_fabric.specs.HistoryList.{ticket_in, words_of, room_of}
 use Rattle.ds_fabric.specs.Showing.{Showing, IsRecord}
 use Rattle.ds_fabric.specs.Spread.{CanSpread, IsLeftOver, HasSpread}
 use Rattle.ds_fabric.proofs.HistoryTickets.{ticket_read, stands_in, counted}
 
-module _ (p : Showing) (nodes : List History) (places' : List ℕ) (design_nodes many : ℕ)
-    (q : IsRecord p nodes places' design_nodes many) where
+module _ (p : Showing) (s : Histories) (design_nodes many : ℕ)
+    (q : IsRecord p s design_nodes many) where
+  abbrev pub W : History → List ℕ
+  W h = words_of s h
+
   abbrev pub R : Run
   R = p.view.run
 
   abbrev pub log : List ℕ
   log = q.recorded.log
 
-  near : (i : ℕ) (h : History) → get_elem? nodes i ≡ some h → h.node < R.nodes
+  near : (i : ℕ) (h : History) → get_elem? s.nodes.items i ≡ some h → h.node < R.nodes
   near i h at = omega (
     arith,
     has_below p.view.holds h.node (q.keeps.listed i h at).has,
@@ -32,62 +36,62 @@ module _ (p : Showing) (nodes : List History) (places' : List ℕ) (design_nodes
   )
 
   -- a word of a history that is a ticket is the place of a firing
-  ticket-is : (i : ℕ) (h : History) → get_elem? nodes i ≡ some h → (e k : ℕ)
+  ticket-is : (i : ℕ) (h : History) → get_elem? s.nodes.items i ≡ some h → (e k : ℕ)
       → node_of R e ≡ h.node → k < turns R e h.fired
-      → get_elem? (tickets_in_log e log) k ≡ some (ticket_in R h e k)
+      → get_elem? (tickets_in_log e log) k ≡ some (ticket_in R h (W h) e k)
   ticket-is i h at e k here below = let t = q.keeps.listed i h at in
       let same = q.recorded.all e (omega (arith, here, near i h at)) in
       at_or (tickets_in_log e log) k 0
       (omega (
         arith,
         below,
-        counted p.view h e q.keeps.counts t here,
+        counted p.view h (W h) (room_of s h) e q.keeps.counts t here,
         ap (λ (xs : List ℕ). length xs) same,
       ))
-      ∙ ap some (sym ((ticket_read p.view h e k t here below).0
+      ∙ ap some (sym ((ticket_read p.view h (W h) (room_of s h) e k t here below).0
       ∙ ap (λ (xs : List ℕ). get_or xs k 0) same))
 
   -- and there is one for each such place
-  fired-often : (i : ℕ) (h : History) → get_elem? nodes i ≡ some h → (e k t : ℕ)
+  fired-often : (i : ℕ) (h : History) → get_elem? s.nodes.items i ≡ some h → (e k t : ℕ)
       → node_of R e ≡ h.node → get_elem? (tickets_in_log e log) k ≡ some t → k < turns R e h.fired
   fired-often i h at e k t here stands = omega (
     arith,
     at_below (tickets_in_log e log) k t stands,
-    counted p.view h e q.keeps.counts (q.keeps.listed i h at) here,
+    counted p.view h (W h) (room_of s h) e q.keeps.counts (q.keeps.listed i h at) here,
     ap (λ (xs : List ℕ). length xs) (q.recorded.all e (omega (arith, here, near i h at))),
   )
 
-  pub can_spread : (i : ℕ) (h : History) → get_elem? nodes i ≡ some h
-      → CanSpread design_nodes many R h
+  pub can_spread : (i : ℕ) (h : History) → get_elem? s.nodes.items i ≡ some h
+      → CanSpread design_nodes many R h (W h)
   can_spread i h at = record {
     design_nodes_is = q.design_nodes_is;
     inside = λ e here. record {
-      stands = stands_in p.view h e (q.keeps.listed i h at) here;
+      stands = stands_in p.view h (W h) (room_of s h) e (q.keeps.listed i h at) here;
       below = λ k below. omega (
         arith,
-        ticket_below e log k (ticket_in R h e k) (ticket-is i h at e k here below),
+        ticket_below e log k (ticket_in R h (W h) e k) (ticket-is i h at e k here below),
         q.recorded.long,
       );
     };
-    distinct = λ d e on here n j k below-j below-k same. n (ticket_of_one log d e j k (ticket_in R h e k)
+    distinct = λ d e on here n j k below-j below-k same. n (ticket_of_one log d e j k (ticket_in R h (W h) e k)
         (subst (λ (x : ℕ). get_elem? (tickets_in_log d log) j ≡ some x) same
         (ticket-is i h at d j on below-j)) (ticket-is i h at e k here below-k)).0;
   }
 
   -- what was put for one node stays where another's is put
-  pub stays : (i j : ℕ) (g h : History) (old new : List ℕ) → i ≢ j → get_elem? nodes i ≡ some g
-      → get_elem? nodes j ≡ some h → HasSpread R g old → IsLeftOver R h old new
-      → HasSpread R g new
-  stays i j g h old new ne at at' s kept e here k below =
-      kept (ticket_in R g e k) e (s e here k below) (λ d m on below-m same.
-      let is = (ticket_of_one log d e m k (ticket_in R g e k)
+  pub stays : (i j : ℕ) (g h : History) (old new : List ℕ) → i ≢ j → get_elem? s.nodes.items i ≡ some g
+      → get_elem? s.nodes.items j ≡ some h → HasSpread R g (W g) old → IsLeftOver R h (W h) old new
+      → HasSpread R g (W g) new
+  stays i j g h old new ne at at' put kept e here k below =
+      kept (ticket_in R g (W g) e k) e (put e here k below) (λ d m on below-m same.
+      let is = (ticket_of_one log d e m k (ticket_in R g (W g) e k)
       (subst (λ (x : ℕ). get_elem? (tickets_in_log d log) m ≡ some x) same
       (ticket-is j h at' d m on below-m)) (ticket-is i g at e k here below)).0 in
       ne (q.keeps.distinct i j g h at at' (sym here ∙ (ap (node_of R) (sym is) ∙ on))))
 
   -- once the events of all nodes are put, the list is that of the firings
   pub spread_is : (out : List ℕ) → length out ≡ many
-      → ((i : ℕ) (h : History) → get_elem? nodes i ≡ some h → HasSpread R h out)
+      → ((i : ℕ) (h : History) → get_elem? s.nodes.items i ≡ some h → HasSpread R h (W h) out)
       → out ≡ firings log
   spread_is out long all = ext_get_or 0 out (firings log) (long
       ∙ (q.recorded.long ∙ sym (length-firings log))) (λ t below.
@@ -99,7 +103,7 @@ module _ (p : Showing) (nodes : List History) (places' : List ℕ) (design_nodes
       let f = q.keeps.found l (q.all l l-near) in let h : History = f.1 in
       let here : l ≡ h.node = sym f.3 in
       let often = fired-often f.0 h f.2 e k t here d.2 in
-      let is = same_at (tickets_in_log e log) k (ticket_in R h e k) t
+      let is = same_at (tickets_in_log e log) k (ticket_in R h (W h) e k) t
       (ticket-is f.0 h f.2 e k here often) d.2 in
       let put : get_elem? out t ≡ some e = subst (λ (x : ℕ). get_elem? out x ≡ some e) is
       (all f.0 h f.2 e here k often) in
