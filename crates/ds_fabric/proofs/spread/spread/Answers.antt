@@ -48,7 +48,7 @@ put-requires-then-history-design_nodes c = let (run, can) = c.requires.can in
     let e : ℕ = c.new-then-history-design_nodes.result in (
       run,
       can.design_nodes_is,
-      subst (λ (x : ℕ). IsInside run c.args.history.now e x) (sym c.put.ensures.long)
+      subst (λ (x : ℕ). IsInside run c.args.history.now c.args.words.now e x) (sym c.put.ensures.long)
           (can.inside e (second-here run c.args.history.now.node c.args.design_nodes e can.design_nodes_is
           c.if-history-design_nodes.true c.new-then-history-design_nodes.ensures)),
     )
@@ -71,14 +71,14 @@ returns-then-history-design_nodes-clause-filled c run can e here k below =
     let on' = second-here run l n d' can.design_nodes_is low c.new-then-history-design_nodes.ensures in
     ⊎_elim
     (λ first. let is : e ≡ d = first ∙ sym c.new.ensures in
-    c.put-then-history-design_nodes.ensures.kept run can.design_nodes_is (ticket_in run h e k) e
-    (subst (λ (x : ℕ). get_elem? c.put.new.out (ticket_in run h x k) ≡ some x) (sym is)
+    c.put-then-history-design_nodes.ensures.kept run can.design_nodes_is (ticket_in run h c.args.words.now e k) e
+    (subst (λ (x : ℕ). get_elem? c.put.new.out (ticket_in run h c.args.words.now x k) ≡ some x) (sym is)
     (c.put.ensures.filled run can.design_nodes_is k
     (subst (λ (x : ℕ). k < turns run x h.fired) is below)))
     (λ m below-m same. can.distinct d' e on' here
     (λ z. omega (arith, z, first, c.new-then-history-design_nodes.ensures)) m k below-m below same))
     (λ second. let is : e ≡ d' = second ∙ sym c.new-then-history-design_nodes.ensures in
-    subst (λ (x : ℕ). get_elem? c.put-then-history-design_nodes.new.out (ticket_in run h x k) ≡ some x)
+    subst (λ (x : ℕ). get_elem? c.put-then-history-design_nodes.new.out (ticket_in run h c.args.words.now x k) ≡ some x)
     (sym is) (c.put-then-history-design_nodes.ensures.filled run can.design_nodes_is k
     (subst (λ (x : ℕ). k < turns run x h.fired) is below)))
     (two-alone run l n e can.design_nodes_is low here)
@@ -101,7 +101,7 @@ returns-else-history-design_nodes-clause-filled c run can e here k below =
     let high : n ≤ l = omega (arith, c.if-history-design_nodes.false) in
     let is : e ≡ d = one-alone run l n e can.design_nodes_is high here
     ∙ sym c.new-else-history-design_nodes.ensures in
-    subst (λ (x : ℕ). get_elem? c.put-else-history-design_nodes.new.out (ticket_in run h x k) ≡ some x)
+    subst (λ (x : ℕ). get_elem? c.put-else-history-design_nodes.new.out (ticket_in run h c.args.words.now x k) ≡ some x)
     (sym is) (c.put-else-history-design_nodes.ensures.filled run can.design_nodes_is k
     (subst (λ (x : ℕ). k < turns run x h.fired) is below))
 
