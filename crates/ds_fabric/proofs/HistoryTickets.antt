@@ -158,23 +158,20 @@ stored_told v l node h words t is low = let on : h.node ≡ node = t.node_is ∙
     )
 
 -- the row ends inside
-pub row_told : (v : View) (l node k : ℕ) (h : History) (words turned : List ℕ)
-    → IsTold v l h words → l ≡ node → node < v.run.design_nodes
-    → k < length (tickets v (closing node)) → turned ≡ words
-    → k * h.step + h.first + width v.run node < length turned
-row_told v l node k h words turned t is low below same =
-    let on : h.node ≡ node = t.node_is ∙ is in
+pub row_told : (v : View) (l node k : ℕ) (h : History) (words : List ℕ) → IsTold v l h words
+    → l ≡ node → node < v.run.design_nodes → k < length (tickets v (closing node))
+    → k * h.step + h.first + width v.run node < length words
+row_told v l node k h words t is low below = let on : h.node ≡ node = t.node_is ∙ is in
     let r = turn_inside v h words t.room k t.tells (omega (arith, on))
     (closed_often v l node k h words t is low below) in
-    omega (arith, r, ap (width v.run) on, ap length same)
+    omega (arith, r, ap (width v.run) on)
 
-pub word_told : (v : View) (l node k i : ℕ) (h : History) (words turned : List ℕ)
-    → IsTold v l h words → l ≡ node → node < v.run.design_nodes
-    → k < length (tickets v (closing node)) → i < width v.run node → turned ≡ words
-    → get_or turned (k * h.step + h.first + i) 0 ≡ value v.run node (k + 1) i
-word_told v l node k i h words turned t is low below inside same =
+pub word_told : (v : View) (l node k i : ℕ) (h : History) (words : List ℕ) → IsTold v l h words
+    → l ≡ node → node < v.run.design_nodes → k < length (tickets v (closing node))
+    → i < width v.run node
+    → get_or words (k * h.step + h.first + i) 0 ≡ value v.run node (k + 1) i
+word_told v l node k i h words t is low below inside =
     let on : h.node ≡ node = t.node_is ∙ is in
-    ap (λ (xs : List ℕ). get_or xs (k * h.step + h.first + i) 0) same
-    ∙ (word_read v h words t.room k i t.tells (omega (arith, on))
+    word_read v h words t.room k i t.tells (omega (arith, on))
     (closed_often v l node k h words t is low below)
-    (omega (arith, inside, ap (width v.run) on)) ∙ ap (λ (x : ℕ). value v.run x (k + 1) i) on)
+    (omega (arith, inside, ap (width v.run) on)) ∙ ap (λ (x : ℕ). value v.run x (k + 1) i) on
