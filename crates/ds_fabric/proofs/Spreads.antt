@@ -73,21 +73,32 @@ module _ (p : Showing) (s : Histories) (design_nodes many : ℕ)
         q.recorded.long,
       );
     };
-    distinct = λ d e on here n j k below-j below-k same. n (ticket_of_one log d e j k (ticket_in R h (W h) e k)
+    distinct = λ d e on here n j k below-j below-k same.
+        n (ticket_of_one log d e j k (ticket_in R h (W h) e k)
         (subst (λ (x : ℕ). get_elem? (tickets_in_log d log) j ≡ some x) same
         (ticket-is i h at d j on below-j)) (ticket-is i h at e k here below-k)).0;
   }
 
   -- what was put for one node stays where another's is put
-  pub stays : (i j : ℕ) (g h : History) (old new : List ℕ) → i ≢ j → get_elem? s.nodes.items i ≡ some g
-      → get_elem? s.nodes.items j ≡ some h → HasSpread R g (W g) old → IsLeftOver R h (W h) old new
-      → HasSpread R g (W g) new
+  pub stays : (i j : ℕ) (g h : History) (old new : List ℕ) → i ≢ j
+      → get_elem? s.nodes.items i ≡ some g → get_elem? s.nodes.items j ≡ some h
+      → HasSpread R g (W g) old → IsLeftOver R h (W h) old new → HasSpread R g (W g) new
   stays i j g h old new ne at at' put kept e here k below =
       kept (ticket_in R g (W g) e k) e (put e here k below) (λ d m on below-m same.
       let is = (ticket_of_one log d e m k (ticket_in R g (W g) e k)
       (subst (λ (x : ℕ). get_elem? (tickets_in_log d log) m ≡ some x) same
       (ticket-is j h at' d m on below-m)) (ticket-is i g at e k here below)).0 in
       ne (q.keeps.distinct i j g h at at' (sym here ∙ (ap (node_of R) (sym is) ∙ on))))
+
+  -- once the events of a node are put, each of its firings has its event at its place
+  put_at : (out : List ℕ) (i : ℕ) (h : History) (e k t : ℕ) → get_elem? s.nodes.items i ≡ some h
+      → node_of R e ≡ h.node → get_elem? (tickets_in_log e log) k ≡ some t
+      → HasSpread R h (W h) out → get_elem? out t ≡ some e
+  put_at out i h e k t at here stands put =
+      let often = fired-often i h at e k t here stands in
+      let is = same_at (tickets_in_log e log) k (ticket_in R h (W h) e k) t
+      (ticket-is i h at e k here often) stands in
+      subst (λ (x : ℕ). get_elem? out x ≡ some e) is (put e here k often)
 
   -- once the events of all nodes are put, the list is that of the firings
   pub spread_is : (out : List ℕ) → length out ≡ many
@@ -100,14 +111,9 @@ module _ (p : Showing) (s : Histories) (design_nodes many : ℕ)
       let l : ℕ = node_of R e in
       let l-near : l < R.nodes = node_inside R log e q.recorded.in_turn
       (omega (arith, at_below (tickets_in_log e log) k t d.2, length-tickets_in_log e log)) in
-      let f = q.keeps.found l (q.all l l-near) in let h : History = f.1 in
-      let here : l ≡ h.node = sym f.3 in
-      let often = fired-often f.0 h f.2 e k t here d.2 in
-      let is = same_at (tickets_in_log e log) k (ticket_in R h (W h) e k) t
-      (ticket-is f.0 h f.2 e k here often) d.2 in
-      let put : get_elem? out t ≡ some e = subst (λ (x : ℕ). get_elem? out x ≡ some e) is
-      (all f.0 h f.2 e here k often) in
-      at_get out t e 0 put ∙ sym (at_get (firings log) t e 0 (stands_at log e k t d.2)))
+      let f = q.keeps.found l (q.all l l-near) in
+      at_get out t e 0 (put_at out f.0 f.1 e k t f.2 (sym {a = f.1.node} f.3) d.2 (all f.0 f.1 f.2))
+      ∙ sym (at_get (firings log) t e 0 (stands_at log e k t d.2)))
 
 -- a whole list written over another of its length
 pub overwritten : {A : Type 0} (n : ℕ) (xs ys : List A) → length ys ≡ n
