@@ -1,4 +1,4 @@
-use Rattle.std.proofs.Common.{◌∙◌, ◌+◌, ◌*◌, ◌<◌, ℕ, List, length, get_or, ap, arith}
+use Rattle.std.proofs.Common.{◌+◌, ◌*◌, ◌<◌, ℕ, length, get_or, ap, arith}
 use Rattle.ds_fabric.specs.declared.history.History.{History}
 use Rattle.ds_fabric.proofs.history.History.ticket.Goals as goal
 
