@@ -1,6 +1,6 @@
 -- The tickets of an event, and the words of a row, as the history of a node has them.
-use Rattle.std.proofs.Common.{◌≡◌, ℕ, ◌+◌, ◌-◌, ◌*◌, ◌/◌, ◌<◌, ◌≤◌, List, [], length, get_or, sym, ap}
-use Rattle.std.proofs.Common.{◌∙◌, arith, cond, suc-mul}
+use Rattle.std.proofs.Common.{◌≡◌, ℕ, ◌+◌, ◌-◌, ◌*◌, ◌/◌, ◌<◌, ◌≤◌, List, [], length, get_or}
+use Rattle.std.proofs.Common.{◌∙◌, arith, sym, ap, cond, suc-mul}
 use Rattle.std.proofs.lemmas.List.{get_or_past}
 use mathlib.Core.Logic.{dite}
 use native.Mathlib.Decide.{dec_lt}
@@ -30,18 +30,20 @@ ticket_place-inside run e s wide = by_bool (ticket_place run e s < s) (opens run
     (λ n. let is : ticket_place run e s ≡ s - 1 = ap (λ b. cond b (s - 2) (s - 1)) n in
     omega (arith, is))
 
+-- all that the node has told
+abbrev told : View → History → List ℕ
+told v h = turns_told v.run (tickets v) h.node (seen v h.node)
+
 -- a word that the node told, where it stands in the list
 word_at : (v : View) (h : History) (words : List ℕ) (room k o : ℕ) → Tells v h words room
-    → o < h.stride → k * stride_of v.run h.node + o
-    < length (turns_told v.run (tickets v) h.node (seen v h.node))
+    → o < h.stride → k * stride_of v.run h.node + o < length (told v h)
     → (get_or words (k * h.step + h.first + o) 0
-    ≡ get_or (turns_told v.run (tickets v) h.node (seen v h.node)) (k * stride_of v.run h.node + o) 0)
+    ≡ get_or (told v h) (k * stride_of v.run h.node + o) 0)
     × (k * h.step + h.first + o < length words)
 word_at v h words room k o t low below =
-    let told : List ℕ = turns_told v.run (tickets v) h.node (seen v h.node) in
     let at : k * h.stride ≡ k * stride_of v.run h.node = ap (λ (x : ℕ). k * x) t.stride in (
       t.turns.same k o low (omega (arith, at, below))
-          ∙ ap (λ (x : ℕ). get_or told (x + o) 0) at,
+          ∙ ap (λ (x : ℕ). get_or (told v h) (x + o) 0) at,
       omega (
         arith,
         t.turns.whole k (omega (arith, at, below)),
@@ -56,14 +58,13 @@ pub ticket_read : (v : View) (h : History) (words : List ℕ) (room e k : ℕ) �
     × (k * h.step + h.first + ticket_place v.run e h.stride < length words)
 ticket_read v h words room e k t here below = let l : ℕ = h.node in
     let s : ℕ = stride_of v.run l in let o : ℕ = ticket_place v.run e h.stride in
-    let told : List ℕ = turns_told v.run (tickets v) l (seen v l) in
     let place : o ≡ ticket_place v.run e s = ap (ticket_place v.run e) t.stride in
     let r = ticket_stands v.run (tickets v) l e k (seen v l) here
     (omega (arith, below, ap (turns v.run e) t.fired)) in
     let w = word_at v h words room k o t
     (ticket_place-inside v.run e h.stride (turn_wide v h words room t))
     (omega (arith, r.1, place)) in (
-      w.0 ∙ (ap (λ (x : ℕ). get_or told (k * s + x) 0) place ∙ r.0),
+      w.0 ∙ (ap (λ (x : ℕ). get_or (told v h) (k * s + x) 0) place ∙ r.0),
       w.1,
     )
 

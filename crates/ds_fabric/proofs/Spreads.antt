@@ -8,8 +8,8 @@ use lib.ListN.{get_elem?}
 use Rattle.ds_rule.specs.Run.{Run, node_of, turns}
 use Rattle.ds_rule.specs.Log.{tickets_in_log, firings}
 use Rattle.ds_rule.proofs.GetElemLemmas.{at_below, at_get, at_or, same_at, has_below}
-use Rattle.ds_rule.proofs.LogCounts.{ticket_below, ticket_of_some, ticket_of_one, stands_at, node_inside, length-tickets_in_log}
-use Rattle.ds_rule.proofs.LogCounts.{length-firings}
+use Rattle.ds_rule.proofs.LogCounts.{ticket_below, ticket_of_some, ticket_of_one, stands_at}
+use Rattle.ds_rule.proofs.LogCounts.{node_inside, length-tickets_in_log, length-firings}
 use Rattle.ds_fabric.specs.declared.history.History.{History}
 use Rattle.ds_fabric.specs.declared.histories.Histories.{Histories}
 use Rattle.ds_fabric.specs.HistoryList.{ticket_in, words_of, room_of}
@@ -122,5 +122,6 @@ overwritten zero xs [] e = refl
 overwritten zero xs (y ∷ ys) e = absurd (omega arith)
 overwritten (suc n) xs [] e = absurd (omega arith)
 overwritten (suc n) [] (y ∷ ys) e = ap (λ zs. y ∷ zs)
-    (ap (take n) (ap (λ zs. ys ++ zs) (sym (drop-nil (length ys)))) ∙ overwritten n [] ys (omega arith))
+    (ap (take n) (ap (λ zs. ys ++ zs) (sym (drop-nil (length ys))))
+    ∙ overwritten n [] ys (omega arith))
 overwritten (suc n) (x ∷ xs) (y ∷ ys) e = ap (λ zs. y ∷ zs) (overwritten n xs ys (omega arith))

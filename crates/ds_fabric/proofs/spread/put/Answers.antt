@@ -30,10 +30,11 @@ loop-k-preserved c = let h : History = c.args.history.now in let k : ℕ = c.loo
     let ws : List ℕ = c.args.words.now in
     let e : ℕ = c.args.event in let out : List ℕ = c.loop-k.out in let inv = c.loop-k.invariant in
     let p : ℕ = c.ticket.result in
-    let is-p : (run : Run) → c.args.design_nodes ≡ run.design_nodes → ticket_in run h ws e k ≡ p = λ run is.
-    sym (c.ticket.ensures run c.index.result (c.of-role.ensures run is).opens_is ∙ ap (λ (x : ℕ). ticket_in run h ws x k) c.index.ensures) in
-    let below : (run : Run) → c.args.design_nodes ≡ run.design_nodes → k < turns run e h.fired = λ run is.
-    omega (
+    let is-p : (run : Run) → c.args.design_nodes ≡ run.design_nodes → ticket_in run h ws e k ≡ p =
+    λ run is. sym (c.ticket.ensures run c.index.result (c.of-role.ensures run is).opens_is
+    ∙ ap (λ (x : ℕ). ticket_in run h ws x k) c.index.ensures) in
+    let below : (run : Run) → c.args.design_nodes ≡ run.design_nodes → k < turns run e h.fired =
+    λ run is. omega (
       arith,
       c.loop-k-test.true,
       c.turns-k-end.ensures,

@@ -29,7 +29,8 @@ can p s design_nodes many long i h words q at is same =
     (can_spread p s design_nodes many q i h at))
 
 pub spread-requires-clause-few : goal.spread-requires-clause-few
-spread-requires-clause-few c = let (p, q) = c.requires in let h : History = c.index-nodes-i.result in
+spread-requires-clause-few c = let (p, q) = c.requires in
+    let h : History = c.index-nodes-i.result in
     let at = at_items c.as_slice-nodes.result.now c.args.histories.now.nodes.items c.loop-i.i h
     c.as_slice-nodes.ensures.value c.loop-i-test.true c.index-nodes-i.is in (
       omega (arith, q.design_nodes_is, q.sound.among, q.sound.few),

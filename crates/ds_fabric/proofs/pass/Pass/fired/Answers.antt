@@ -35,7 +35,8 @@ pub offset_bounds-nodes-at : goal.offset_bounds-nodes-at
 offset_bounds-nodes-at c = omega (arith, bounds-nodes-at c, c.as_slice-nodes.type_inv)
 
 pub returns-clause-counted : goal.returns-clause-counted
-returns-clause-counted c = subst (λ (x : Showing). IsCounted x.view) c.self.view_is c.self.invariant.keeps.counts
+returns-clause-counted c = subst (λ (x : Showing). IsCounted x.view) c.self.view_is
+    c.self.invariant.keeps.counts
 
 pub returns-clause-value : goal.returns-clause-value
 returns-clause-value c = let me : Sat = c.self.inside.seat.me in
@@ -44,6 +45,7 @@ returns-clause-value c = let me : Sat = c.self.inside.seat.me in
     let f = reads me c.self.inside.histories zs at c.args.node h c.as_slice-nodes.ensures.value
     c.self.invariant.keeps
     (at_node zs at c.index-number.result c.args.node c.index-number.ensures c.find-at.ensures)
-    (c.index-nodes-at.is ∙ ap (λ (xs : List History). get_or xs at h) c.as_slice-nodes.ensures.value) in
+    (c.index-nodes-at.is
+    ∙ ap (λ (xs : List History). get_or xs at h) c.as_slice-nodes.ensures.value) in
     ap (λ (x : History). x.fired) (sym c.index-nodes-at.is) ∙ (f.tells.fired
     ∙ (ap (seen me.0) f.node_is ∙ ap (λ (x : Showing). seen x.view c.args.node) c.self.view_is))

@@ -26,5 +26,6 @@ returns c = let v : View = c.args.self.now.shown.view in let run : Run = v.run i
     let h : History = c.history.result.0.now in let i = c.history.ensures in
     let e = c.of-event.ensures run same in
     c.turns.ensures ∙ (e.turns_is h.fired
-    ∙ (counted v h c.history.result.1.now i.room c.index.result i.counts i.tells (sym e.node_is ∙ sym i.node_is)
+    ∙ (counted v h c.history.result.1.now i.room c.index.result i.counts i.tells
+    (sym e.node_is ∙ sym i.node_is)
     ∙ ap (λ (e : ℕ). length (tickets v e)) c.index.ensures))

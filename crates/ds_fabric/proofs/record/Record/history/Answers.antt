@@ -46,7 +46,8 @@ returns c = let q = c.self.invariant in let v : View = c.self.inside.shown.value
     let run : Run = v.run in let l : ℕ = c.args.node in let at : ℕ = c.find-at.result in
     let f = reads (v, []) s c.as_slice-nodes.result.now at l h c.as_slice-nodes.ensures.value
     q.keeps c.find-at.ensures
-    (c.index-nodes-at.is ∙ ap (λ (xs : List History). get_or xs at h) c.as_slice-nodes.ensures.value) in
+    (c.index-nodes-at.is
+    ∙ ap (λ (xs : List History). get_or xs at h) c.as_slice-nodes.ensures.value) in
     subst (λ (x : Recorder). IsTold x.shown.view l h c.words.result.now) c.self.view_is
     (subst (λ (ws : List ℕ). IsTold v l h ws) (sym c.words.ensures) (record {
       node_is = f.node_is;

@@ -42,4 +42,5 @@ returns c = let v : View = c.args.self.now.shown.view in
     let e = c.of-event.ensures v.run same in
     c.ticket.ensures v.run c.index.result e.opens_is
     ∙ (ticket_told v c.of-event.result.node c.args.event c.index.result c.args.k
-    c.history.result.0.now c.history.result.1.now c.history.ensures c.index.ensures e.node_is c.requires).1
+    c.history.result.0.now c.history.result.1.now c.history.ensures c.index.ensures e.node_is
+    c.requires).1

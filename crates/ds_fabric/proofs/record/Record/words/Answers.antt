@@ -1,5 +1,5 @@
-use Rattle.std.proofs.Common.{◌≡◌, ◌<◌, ◌+◌, ◌-◌, ◌*◌, ◌∙◌, ◌≤◌, ℕ, List, get_or, length, take, drop}
-use Rattle.std.proofs.Common.{ap, sym, arith}
+use Rattle.std.proofs.Common.{◌≡◌, ◌<◌, ◌+◌, ◌-◌, ◌*◌, ◌∙◌, ◌≤◌, ℕ, List, get_or, length, take}
+use Rattle.std.proofs.Common.{drop, ap, sym, arith}
 use Rattle.ds_rule.specs.Run.{closing}
 use Rattle.ds_rule.specs.Words.{width}
 use Rattle.ds_rule.specs.declared.view.View.{View}
