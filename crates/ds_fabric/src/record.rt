@@ -55,8 +55,8 @@ impl Record {
         ensures { result ≡ slice_index (tickets self.now.shown.view event) k }
     {
         let event = NodeEvent::of(event.index(), self.design_nodes);
-        let history = self.history(event.node);
-        history.ticket(self.histories.words(history), event.role, k)
+        let (history, words) = self.history(event.node);
+        history.ticket(words, event.role, k)
     }
 
     /// How often the event fired.
@@ -65,7 +65,8 @@ impl Record {
         ensures { result ≡ length (tickets self.now.shown.view event) }
     {
         let event = NodeEvent::of(event.index(), self.design_nodes);
-        event.role.turns(self.history(event.node).fired)
+        let (history, _) = self.history(event.node);
+        event.role.turns(history.fired)
     }
 
     /// How many rows the latch has stored: one for each time that it closed. Its history has each
@@ -76,7 +77,7 @@ impl Record {
         ensures sound { IsSound self.now.shown.view.run }
         ensures most { result ≤ self.now.shown.view.run.limit }
     {
-        let history = self.history(node.index());
+        let (history, _) = self.history(node.index());
         EventRole::Closing.turns(history.fired) as usize
     }
 
@@ -90,8 +91,7 @@ impl Record {
         ensures same { length (node_values self.now.shown.view.run node (k + 1))
             ≡ slice_index self.now.shown.view.run.lengths node }
     {
-        let history = self.history(node.index());
-        let words = self.histories.words(history);
+        let (history, words) = self.history(node.index());
         let from = k * history.step + history.first;
         // Behind the row stand the tickets of the opening and of the closing.
         let width = history.stride - 2;
@@ -119,15 +119,15 @@ impl Record {
         unpack(self.words(node, k), into);
     }
 
-    // The history of a node. The run is sound, for a caller too.
-    fn history(&self, node: usize) -> &History
+    // The history of a node, and the list of its words. The run is sound, for a caller too.
+    fn history(&self, node: usize) -> (&History, &[u64])
         requires { IsSound self.now.shown.view.run → node < self.now.shown.view.run.nodes }
-        ensures { IsTold self.now.shown.view node result.now
-            (words_of self.inside.histories result.now) }
+        ensures { IsTold self.now.shown.view node result.0.now result.1.now }
     {
         let nodes = self.histories.nodes.as_slice();
         let at = find(nodes, self.histories.places.as_slice(), node);
-        &nodes[at]
+        let history = &nodes[at];
+        (history, self.histories.words(history))
     }
 
     /// The events by rising ticket.

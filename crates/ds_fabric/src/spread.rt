@@ -74,13 +74,7 @@ fn spread(design_nodes: usize, history: &History, words: &[u64], out: &mut [Even
 }
 
 // Puts the event at the places of its tickets.
-fn put(
-    design_nodes: usize,
-    history: &History,
-    words: &[u64],
-    event: EventId,
-    out: &mut [EventId],
-)
+fn put(design_nodes: usize, history: &History, words: &[u64], event: EventId, out: &mut [EventId])
     requires { (run : Run) × (design_nodes ≡ run.design_nodes)
         × IsInside run history.now words.now event (length out.old) }
 

@@ -10,5 +10,6 @@ use Rattle.ds_fabric.proofs.spread.put.Given as goal
 abbrev pub invariant-loop-k : goal.invariant-loop-k
 invariant-loop-k l = (length l.out ≡ length l.fn.out)
     × ((run : Run) → l.fn.design_nodes ≡ run.design_nodes → (j : ℕ) → j < l.k
-    → get_elem? l.out (ticket_in run l.fn.history l.fn.event j) ≡ some l.fn.event)
-    × ((run : Run) → l.fn.design_nodes ≡ run.design_nodes → IsElsewhereKept run l.fn.history l.fn.event l.fn.out l.out)
+    → get_elem? l.out (ticket_in run l.fn.history l.fn.words l.fn.event j) ≡ some l.fn.event)
+    × ((run : Run) → l.fn.design_nodes ≡ run.design_nodes
+    → IsElsewhereKept run l.fn.history l.fn.words l.fn.event l.fn.out l.out)
