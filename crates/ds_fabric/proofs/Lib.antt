@@ -9,6 +9,7 @@ pub mod HistoryTickets
 pub mod Finds
 pub mod Standing
 pub mod PassFirings
+pub mod FirstPass
 pub mod DealAndGather
 pub mod Laying
 pub mod ArcChains
