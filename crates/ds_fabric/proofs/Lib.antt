@@ -8,6 +8,7 @@ pub mod FiresIfEnabled
 pub mod HistoryTickets
 pub mod Finds
 pub mod Standing
+pub mod Copied
 pub mod DealAndGather
 pub mod Laying
 pub mod ArcChains
