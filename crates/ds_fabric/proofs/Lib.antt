@@ -9,6 +9,7 @@ pub mod HistoryTickets
 pub mod Finds
 pub mod Standing
 pub mod Copied
+pub mod Dealing
 pub mod DealAndGather
 pub mod Laying
 pub mod ArcChains

@@ -5,7 +5,7 @@ use Rattle.ds_rule.specs.Rule.{holds}
 use Rattle.ds_fabric.specs.Base.{Base}
 use Rattle.ds_fabric.specs.Showing.{Showing, Keeps}
 use Rattle.ds_fabric.specs.declared.history.History.{History}
-use Rattle.ds_fabric.proofs.DealAndGather.{deals_left, deals_right}
+use Rattle.ds_fabric.proofs.Dealing.{separated, wide, deals_left, deals_right}
 use Rattle.ds_fabric.proofs.Finds.{indexed_same, stands_same, stands_below}
 use Rattle.std.proofs.Common.{◌≤◌, length}
 use Rattle.ds_rule.specs.Run.{Run}
