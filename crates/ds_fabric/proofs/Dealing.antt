@@ -22,10 +22,9 @@ use Rattle.ds_rule.proofs.GetElemLemmas.{only_item, by_bool, get-first, get-seco
 use Rattle.ds_fabric.specs.declared.buffers.Buffers.{Buffers}
 use Rattle.ds_fabric.specs.declared.history.History.{History}
 use Rattle.ds_fabric.specs.declared.histories.Histories.{Histories}
-use Rattle.ds_fabric.specs.Begun.{IsRoomFor}
 use Rattle.ds_fabric.specs.Flight.{HasRoomFor}
 use Rattle.ds_fabric.specs.HistoryList.{stride_of, turns_told, StandsAt, words_of, room_of}
-use Rattle.ds_fabric.specs.Indexed.{came, IsWithout, IsIndexed}
+use Rattle.ds_fabric.specs.Indexed.{came, IsWithout, IsIndexed, IsHistoryAt}
 use Rattle.ds_fabric.specs.Separated.{IsCopy, IsOwn, AreCopies, AreSeparated, AreWide, words_until}
 use Rattle.ds_fabric.specs.Showing.{Tells, Keeps, IsPass}
 use Rattle.ds_fabric.proofs.HistoryLayout.{stride-low, stride-high, told_small}
@@ -364,4 +363,55 @@ deals_right me me' s t i node h own own' k at same is items =
       distinct = λ a b g g' p q e. (one a g p).0 ∙ sym (one b g' q).0;
       beside = λ e. absurd (false≢true (sym e ∙ own'));
       all = λ e. absurd (false≢true (sym e ∙ own'));
+    })
+
+-- the history of a node stands where it stood before the histories got lists of their own
+pub still_at : (limit i node : ℕ) (s t : Histories) → AreSeparated limit s t
+    → IsHistoryAt s.nodes.items i node → IsHistoryAt t.nodes.items i node
+still_at limit i node s t x f = by_bool (IsHistoryAt t.nodes.items i node) s.apart
+    (λ y. subst (λ (z : Histories). IsHistoryAt z.nodes.items i node) (sym (x.before y)) f)
+    (λ n. let c = x.copies n in
+    let h = there_is t.nodes.items i (omega (arith, at_below s.nodes.items i f.0 f.1, c.long)) in
+    (h.0, h.1, (c.each i f.0 h.0 f.1 h.1).node ∙ f.2))
+
+-- a pass that a node left
+pub left_pass : (me me' : Sat) (room : ℕ) (s t : Histories) (i node : ℕ) (h : History)
+    → s.apart ≡ true → t.apart ≡ true → IsPass me room s
+    → get_elem? s.nodes.items i ≡ some h → h.node ≡ node
+    → me' ≡ (without_cut (with_cut me.0 node), me.1)
+    → IsWithout s.nodes.items t.nodes.items i
+    → IsIndexed me.0.run.nodes room (length t.nodes.items) t.nodes.items t.places.items
+    → vec_capacity t.nodes ≡ vec_capacity s.nodes → t.buffers ≡ s.buffers → IsPass me' room t
+left_pass me me' room s t i node h own own' q at same is out o roomy buffers =
+    let after : Sat = (without_cut (with_cut me.0 node), me.1) in
+    subst (λ (m : Sat). IsPass m room t) (sym is) (record {
+      keeps = deals_left me after s t i node h own own' q.keeps at same refl out;
+      indexed = o;
+      roomy = omega (arith, roomy, q.roomy);
+      few = q.few;
+      buffers = λ j g e. subst (λ (b : Buffers). HasRoomFor me.0.run g.node b) (sym buffers)
+          (q.buffers (came i (length t.nodes.items) j) g (out.from j g e));
+    })
+
+-- the pass to which it went
+pub dealt_pass : (me me' : Sat) (run : Run) (room : ℕ) (s t : Histories) (i node : ℕ) (h : History)
+    → run ≡ me.0.run → s.apart ≡ true → t.apart ≡ true → Keeps me s
+    → get_elem? s.nodes.items i ≡ some h → h.node ≡ node
+    → me' ≡ (only_cut (with_cut me.0 node), []) → t.nodes.items ≡ h ∷ []
+    → IsIndexed run.nodes room 1 (h ∷ []) t.places.items → room ≤ vec_capacity t.nodes
+    → HasRoomFor run node t.buffers → IsPass me' room t
+dealt_pass me me' run room s t i node h run-is own own' k at same is items o roomy buffers =
+    let after : Sat = (only_cut (with_cut me.0 node), []) in
+    let R : Run = me.0.run in let ps : List ℕ = t.places.items in
+    subst (λ (m : Sat). IsPass m room t) (sym is) (record {
+      keeps = deals_right me after s t i node h own own' k at same refl items;
+      indexed = subst (λ (l : List History). IsIndexed R.nodes room (length l) l ps) (sym items)
+          (subst (λ (r : Run). IsIndexed r.nodes room 1 (h ∷ []) ps) run-is o);
+      roomy = roomy;
+      few = o.small.1;
+      buffers = λ j g e.
+          let one = only_item h g j (subst (λ (l : List History). get_elem? l j ≡ some g) items e) in
+          subst (λ (x : History). HasRoomFor R x.node t.buffers) one.1
+          (subst (λ (l : ℕ). HasRoomFor R l t.buffers) (sym same)
+          (subst (λ (r : Run). HasRoomFor r node t.buffers) run-is buffers));
     })

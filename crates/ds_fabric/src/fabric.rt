@@ -187,11 +187,11 @@ impl<'a, V: RunValues, C: Compute> Fabric<'a, V, C> {
         ensures same { OnErr result (pass.new ≡ pass.old) }
     {
         let number = node.index();
+        let held = pass.histories.nodes.as_slice();
+        let at = find(held, pass.histories.places.as_slice(), number);
         let reads = self.index.reads[number];
         let mut histories = room_for(alloc, self.run, number, reads, room)?;
         pass.histories.separate(alloc, self.run.limit() as usize)?;
-        let held = pass.histories.nodes.as_slice();
-        let at = find(held, pass.histories.places.as_slice(), number);
         let seat = deal_seat(&self.table.shared, self.run, &mut pass.seat, number);
         let history = take_out(
             &mut pass.histories.nodes,
