@@ -10,6 +10,7 @@ pub mod Finds
 pub mod Standing
 pub mod Copied
 pub mod Dealing
+pub mod Gathering
 pub mod DealAndGather
 pub mod Laying
 pub mod ArcChains
