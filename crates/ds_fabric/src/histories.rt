@@ -135,7 +135,7 @@ impl Histories {
         self.buffers.widen(buffers);
     }
 
-    // Takes the list of another pass, whose histories have lists of their own or use this one.
+    // Takes the list of another pass, unless its histories have lists of their own.
     fn take_words(&mut self, apart: bool, together: Vec<u64>)
         ensures same { (self.new.nodes ≡ self.old.nodes) × (self.new.places ≡ self.old.places)
             × (self.new.buffers ≡ self.old.buffers) }
