@@ -1,5 +1,5 @@
 -- Histories of one pass that take in those of another.
-use Rattle.std.specs.Prelude.{◌≡◌, ℕ, ◌<◌, ◌≤◌, ◌++◌, List, true, false, length, vec_len, vec_capacity}
+use Rattle.std.specs.Prelude.{◌≡◌, ℕ, ◌<◌, ◌≤◌, ◌++◌, true, false, length, vec_capacity}
 use Rattle.std.specs.Prelude.{cond}
 use Rattle.ds_fabric.specs.Indexed.{IsIndexed, IsOneEach, AreBelow}
 use Rattle.ds_fabric.specs.declared.buffers.Buffers.{Buffers}

@@ -1,4 +1,4 @@
-use Rattle.std.proofs.Common.{◌≡◌, ◌∙◌, ◌+◌, ◌<◌, ◌≤◌, ◌++◌, ◌∷◌, [], ℕ, List, length, true}
+use Rattle.std.proofs.Common.{◌≡◌, ◌∙◌, ◌<◌, ◌++◌, ◌∷◌, [], ℕ, List, true}
 use Rattle.std.proofs.Common.{ap, arith, subst, sym, refl}
 use Rattle.std.proofs.lemmas.List.{get_or_default}
 use mathlib.Core.Option.{some}
@@ -11,7 +11,7 @@ use Rattle.ds_rule.proofs.GetElemLemmas.{same_at, at_below}
 use Rattle.ds_fabric.specs.Base.{Base}
 use Rattle.ds_fabric.specs.Flight.{HasRoomFor}
 use Rattle.ds_fabric.specs.Indexed.{IsHistoryAt}
-use Rattle.ds_fabric.specs.Showing.{Showing, Keeps, IsPass}
+use Rattle.ds_fabric.specs.Showing.{Showing, IsPass}
 use Rattle.ds_fabric.specs.declared.history.History.{History}
 use Rattle.ds_fabric.specs.declared.histories.Histories.{Histories}
 use Rattle.ds_fabric.proofs.Dealing.{separated, wide, still_at, left_pass, dealt_pass}
@@ -85,8 +85,7 @@ apart g c =
     let r : c.self.inside.run.now ≡ c.pass.inside.seat.me.0.run =
     ap (λ (x : Base). x.run) c.self.view_is
     ∙ (sym c.requires.fits.run ∙ sym (ap (λ (x : Showing). x.view.run) c.pass.view_is)) in
-    let s : Histories = c.pass.inside.histories in let t : Histories = c.separate.new.self in
-    (
+    let s : Histories = c.pass.inside.histories in let t : Histories = c.separate.new.self in (
       separated c.pass.inside.seat.me c.pass.inside.room c.limit.result s t
           (c.limit.ensures ∙ ap (λ (x : Run). x.limit) r) c.pass.invariant
           c.in_ok-separate.ensures.ok,

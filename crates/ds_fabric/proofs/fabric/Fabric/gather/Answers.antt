@@ -1,9 +1,6 @@
-use Rattle.std.proofs.Common.{◌≡◌, ◌+◌, ◌∙◌, ◌≤◌, ℕ, List, ap, subst, sym, arith, length}
-use Rattle.ds_rule.specs.Run.{Run}
-use Rattle.ds_rule.specs.Plays.{Sat}
+use Rattle.std.proofs.Common.{◌≡◌, ◌∙◌, ap, sym, arith}
 use Rattle.ds_fabric.specs.Joined.{IsGathering}
 use Rattle.ds_fabric.specs.Showing.{Showing}
-use Rattle.ds_fabric.specs.declared.histories.Histories.{Histories}
 use Rattle.ds_fabric.proofs.Gathering.{gathered, gathered_pass}
 use Rattle.ds_fabric.proofs.fabric.Fabric.gather.Given
 use Rattle.ds_fabric.proofs.fabric.Fabric.gather.Goals as goal

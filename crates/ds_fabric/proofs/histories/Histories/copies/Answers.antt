@@ -1,9 +1,6 @@
-use Rattle.std.proofs.Common.{◌≡◌, ◌<◌, ◌≤◌, ◌+◌, ◌∙◌, ℕ, List, [], ◌∷◌, ◌++◌, length, ap, subst, sym, arith, refl, vec_capacity, length-append}
-use mathlib.Core.Option.{some}
-use lib.ListN.{get_elem?}
+use Rattle.std.proofs.Common.{◌∙◌, ℕ, List, [], ◌∷◌, length, ap, subst, arith, refl, vec_capacity, length-append}
 use Rattle.atomic_table.proofs.Lists.{at_index}
-use Rattle.ds_rule.proofs.GetElemLemmas.{at_below}
-use Rattle.ds_fabric.specs.Separated.{IsCopy, IsOwn}
+use Rattle.ds_fabric.specs.Separated.{IsOwn}
 use Rattle.ds_fabric.proofs.Copied.{copied_more}
 use Rattle.ds_fabric.specs.declared.history.History.{History}
 use Rattle.ds_fabric.proofs.histories.Histories.copies.Goals as goal

@@ -1,10 +1,9 @@
-use Rattle.std.proofs.Common.{◌≡◌, ◌≤◌, ◌+◌, ◌∙◌, ◌++◌, ℕ, List, length, vec_capacity}
+use Rattle.std.proofs.Common.{◌≡◌, ◌≤◌, ◌∙◌, ◌++◌, ℕ, List, length, vec_capacity}
 use Rattle.std.proofs.Common.{ap, subst, sym, arith}
-use Rattle.std.specs.declared.vec.Vec.{Vec}
 use Rattle.ds_fabric.specs.declared.history.History.{History}
 use Rattle.ds_fabric.specs.declared.buffers.Buffers.{Buffers}
 use Rattle.ds_fabric.specs.Indexed.{IsIndexed, AreBelow}
-use Rattle.ds_fabric.specs.Joined.{AreJoined, AreWidened, IsGathering}
+use Rattle.ds_fabric.specs.Joined.{AreWidened}
 use Rattle.ds_fabric.proofs.histories.Histories.take_in.Goals as goal
 
 pub returns-clause-joined : goal.returns-clause-joined
