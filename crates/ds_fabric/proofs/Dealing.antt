@@ -351,7 +351,8 @@ deals_right me me' s t i node h own own' k at same is items =
       seen_long = k.seen_long;
       among = k.among;
       counts = λ e hl. k.counts e (had (node_of v.run e) hl);
-      listed = λ j g e. subst (λ (x : History). Tells w x (words_of t x) (room_of t x)) (one j g e).1
+      listed = λ j g e.
+          subst (λ (x : History). Tells w x (words_of t x) (room_of t x)) (one j g e).1
           (tells_own w s t h own own' (tells_moved v w h (words_of s h) (room_of s h) old refl
           (ap (holds w) same ∙ here) refl (λ x on. refl)));
       found = λ l hl. (
@@ -410,7 +411,8 @@ dealt_pass me me' run room s t i node h run-is own own' k at same is items o roo
       roomy = roomy;
       few = o.small.1;
       buffers = λ j g e.
-          let one = only_item h g j (subst (λ (l : List History). get_elem? l j ≡ some g) items e) in
+          let one = only_item h g j
+          (subst (λ (l : List History). get_elem? l j ≡ some g) items e) in
           subst (λ (x : History). HasRoomFor R x.node t.buffers) one.1
           (subst (λ (l : ℕ). HasRoomFor R l t.buffers) (sym same)
           (subst (λ (r : Run). HasRoomFor r node t.buffers) run-is buffers));

@@ -48,11 +48,13 @@ module _ (me he : Sat) (s o : Histories) (k : Keeps me s) (g : Keeps he o)
     (run : he.0.run ≡ me.0.run)
     (clear : (l : ℕ) → l < me.0.run.nodes → holds me.0 l ≡ true → holds he.0 l ≡ true → ⊥) where
   no-first : (i : ℕ) (h : History) → get_elem? s.nodes.items i ≡ some h → o.apart ≡ false → ⊥
-  no-first i h at one = let has = (k.listed i h at).has in let near = near-node me s h.node k has in
+  no-first i h at one = let has = (k.listed i h at).has in
+      let near = near-node me s h.node k has in
       clear h.node near has (g.all one h.node (omega (arith, near, ap (λ (r : Run). r.nodes) run)))
 
   no-second : (i : ℕ) (h : History) → get_elem? o.nodes.items i ≡ some h → s.apart ≡ false → ⊥
-  no-second i h at one = let has = (g.listed i h at).has in let near = near-node he o h.node g has in
+  no-second i h at one = let has = (g.listed i h at).has in
+      let near = near-node he o h.node g has in
       let near' : h.node < me.0.run.nodes = omega (arith, near, ap (λ (r : Run). r.nodes) run) in
       clear h.node near' (k.all one h.node near') has
 

@@ -1,6 +1,6 @@
 -- Words that stand in a list, turn by turn, where others are written.
 use Rattle.std.proofs.Common.{◌≡◌, ℕ, zero, suc, ◌+◌, ◌*◌, ◌<◌, ◌≤◌, ◌⊎◌, inl, inr, ⊎_elim, List}
-use Rattle.std.proofs.Common.{length, get_or, ◌++◌, sym, ap, ◌∙◌, arith, suc-mul, length-append, refl, ◌-◌}
+use Rattle.std.proofs.Common.{length, get_or, ◌++◌, sym, ap, ◌∙◌, arith, suc-mul, length-append, refl}
 use Rattle.std.proofs.Math.Nat.{mul-le-mul_right}
 use mathlib.Core.Logic.{dite}
 use native.Mathlib.Decide.{ℕ_discrete, dec_lt}

@@ -103,7 +103,8 @@ take_out-history-requires-clause-indexed g c =
 
 pub take_out-history-requires-clause-distinct : goal.take_out-history-requires-clause-distinct
 take_out-history-requires-clause-distinct g c =
-    (apart g (goal.at.take_out-history-requires-clause-distinct g c).After-deal_seat-seat).0.keeps.distinct
+    let a = apart g (goal.at.take_out-history-requires-clause-distinct g c).After-deal_seat-seat in
+    a.0.keeps.distinct
 
 pub take_out-history-requires-clause-near : goal.take_out-history-requires-clause-near
 take_out-history-requires-clause-near g c =

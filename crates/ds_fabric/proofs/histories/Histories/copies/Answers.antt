@@ -1,4 +1,5 @@
-use Rattle.std.proofs.Common.{◌∙◌, ℕ, List, [], ◌∷◌, length, ap, subst, arith, refl, vec_capacity, length-append}
+use Rattle.std.proofs.Common.{◌∙◌, ℕ, List, [], ◌∷◌, length, ap, subst, arith, refl}
+use Rattle.std.proofs.Common.{vec_capacity, length-append}
 use Rattle.atomic_table.proofs.Lists.{at_index}
 use Rattle.ds_fabric.specs.Separated.{IsOwn}
 use Rattle.ds_fabric.proofs.Copied.{copied_more}

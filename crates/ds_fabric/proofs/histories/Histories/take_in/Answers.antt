@@ -34,6 +34,7 @@ returns-clause-indexed c many room q =
     (subst (λ (l : List History). AreBelow l many) (sym both) q.below) in
     let items : zs ≡ c.take_words.new.self.nodes.items = c.as_slice.ensures.value
     ∙ sym (ap (λ v. v.items) e.same.0) in
-    subst (λ (l : List History). IsIndexed many room (length l) l c.take_words.new.self.places.items)
+    let rs : List ℕ = c.take_words.new.self.places.items in
+    subst (λ (l : List History). IsIndexed many room (length l) l rs)
     items (subst (λ (l : List ℕ). IsIndexed many room (length zs) zs l)
     (sym (ap (λ v. v.items) e.same.1)) o)
