@@ -10,7 +10,9 @@ pub mod Finds
 pub mod Standing
 pub mod PassFirings
 pub mod FirstPass
-pub mod DealAndGather
+pub mod Copied
+pub mod Dealing
+pub mod Gathering
 pub mod Laying
 pub mod ArcChains
 pub mod IncomingArcs

@@ -1,5 +1,5 @@
 -- Histories of one pass that take in those of another.
-use Rattle.std.specs.Prelude.{◌≡◌, ℕ, ◌<◌, ◌≤◌, ◌++◌, List, true, false, length, vec_len, vec_capacity}
+use Rattle.std.specs.Prelude.{◌≡◌, ℕ, ◌<◌, ◌≤◌, ◌++◌, true, false, length, vec_capacity}
 use Rattle.std.specs.Prelude.{cond}
 use Rattle.ds_fabric.specs.Indexed.{IsIndexed, IsOneEach, AreBelow}
 use Rattle.ds_fabric.specs.declared.buffers.Buffers.{Buffers}
@@ -25,7 +25,7 @@ pub record AreWidened (a b c : Buffers) : Type 0 where
 -- the histories of both, with the one list of the other where it has one
 pub record AreJoined (s other t : Histories) : Type 0 where
   pub nodes : t.nodes.items ≡ s.nodes.items ++ other.nodes.items
-  pub nodes_room : vec_capacity t.nodes ≡ vec_capacity s.nodes
+  pub nodes_room : vec_capacity s.nodes ≤ vec_capacity t.nodes
   pub apart : t.apart ≡ cond other.apart s.apart false
   pub kept : other.apart ≡ true → t.together ≡ s.together
   pub taken : other.apart ≡ false → t.together ≡ other.together

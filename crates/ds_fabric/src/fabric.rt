@@ -119,12 +119,7 @@ impl<'a, V: RunValues, C: Compute> Fabric<'a, V, C> {
         ensures step { Stepped self.now.run pass.old.view node result pass.new.view }
         ensures exact { FiresIfEnabled self.now.run pass.old.view node result }
     {
-        self.step_node(
-            &mut pass.seat,
-            &mut pass.histories,
-            node,
-            &mut pass.scratch,
-        )
+        self.step_node(&mut pass.seat, &mut pass.histories, node, &mut pass.scratch)
     }
 
     /// The node goes to a new pass, which has seen what the old one had seen.
@@ -187,17 +182,13 @@ impl<'a, V: RunValues, C: Compute> Fabric<'a, V, C> {
         ensures same { OnErr result (pass.new ≡ pass.old) }
     {
         let number = node.index();
+        let held = pass.histories.nodes.as_slice();
+        let at = find(held, pass.histories.places.as_slice(), number);
         let reads = self.index.reads[number];
         let mut histories = room_for(alloc, self.run, number, reads, room)?;
         pass.histories.separate(alloc, self.run.limit() as usize)?;
-        let held = pass.histories.nodes.as_slice();
-        let at = find(held, pass.histories.places.as_slice(), number);
         let seat = deal_seat(&self.table.shared, self.run, &mut pass.seat, number);
-        let history = take_out(
-            &mut pass.histories.nodes,
-            &mut pass.histories.places,
-            at,
-        );
+        let history = take_out(&mut pass.histories.nodes, &mut pass.histories.places, at);
         histories.nodes.push_reserved(history);
         Ok(Pass {
             seat,

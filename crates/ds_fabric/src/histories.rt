@@ -1,6 +1,6 @@
 //! The histories of a pass, and the lists in which their words stand.
-ghost use Rattle.std.specs.Prelude.{◌≡◌, ◌<◌, ◌≤◌, ◌+◌, ℕ, false, length, IfOk, OnErr, OnOk};
-ghost use Rattle.std.specs.Prelude.{vec_len, vec_capacity};
+ghost use Rattle.std.specs.Prelude.{◌≡◌, ◌<◌, ◌≤◌, ◌+◌, ℕ, true, false, cond, length, IfOk, OnErr};
+ghost use Rattle.std.specs.Prelude.{OnOk, vec_len, vec_capacity};
 ghost use Rattle.ds_rule.specs.Run.{Run};
 ghost use Rattle.ds_fabric.specs.HistoryList.{IsWritten, words_of};
 ghost use Rattle.ds_fabric.specs.Indexed.{IsIndexed};
@@ -128,11 +128,22 @@ impl Histories {
         };
         nodes.destroy_empty();
         note_from(self.nodes.as_slice(), &mut self.places, first);
+        self.take_words(apart, together);
+        self.buffers.widen(buffers);
+    }
+
+    // Takes the list of another pass, unless its histories have lists of their own.
+    fn take_words(&mut self, apart: bool, together: Vec<u64>)
+        ensures same { (self.new.nodes ≡ self.old.nodes) × (self.new.places ≡ self.old.places)
+            × (self.new.buffers ≡ self.old.buffers) }
+        ensures apart { self.new.apart ≡ cond apart self.old.apart false }
+        ensures kept { apart ≡ true → self.new.together ≡ self.old.together }
+        ensures taken { apart ≡ false → self.new.together ≡ together }
+    {
         if !apart {
             self.apart = false;
             self.together = together;
         }
-        self.buffers.widen(buffers);
     }
 }
 

@@ -1,8 +1,6 @@
 use Rattle.std.proofs.Common.{◌≡◌, ◌<◌, ◌≤◌, ◌+◌, ℕ, List, arith, sym, ap, get_or}
 use mathlib.Core.Logic.{dite}
 use native.Mathlib.Decide.{ℕ_discrete}
-use Rattle.atomic_table.proofs.Lists.{at_index}
-use Rattle.ds_rule.proofs.GetElemLemmas.{at_get}
 use Rattle.ds_rule.specs.Run.{Run}
 use Rattle.ds_fabric.specs.HistoryList.{stride_of}
 use Rattle.ds_fabric.proofs.build.buffers.Goals as goal
@@ -13,19 +11,9 @@ loop-node-init g c k below = absurd (omega arith)
 pub loop-node-preserved : goal.loop-node-preserved
 loop-node-preserved g c k below = let n : ℕ = c.loop-node.node in
     let run : Run = c.args.run.now in let reads : List ℕ = c.args.reads.now in
-    let near : n < run.nodes = omega (
-      arith,
-      c.loop-node-test.true,
-      c.loop-node.auto.node-end,
-      c.nodes-node-end.ensures,
-    ) in
-    let read : c.index-reads-node.result ≡ get_or reads n 0 =
-    sym (at_get reads n c.index-reads-node.result 0
-    (at_index reads n c.index-reads-node.result (omega (arith, near, c.requires.reads.long))
-    c.index-reads-node.is)) in
     dite (ℕ_discrete k n)
     (λ e. (
-      omega (arith, ap (λ (x : ℕ). get_or reads x 0) e, read, c.max-most.ensures),
+      omega (arith, ap (λ (x : ℕ). get_or reads x 0) e, c.max-most.ensures),
       omega (arith, ap (stride_of run) e, c.stride_of.ensures, c.max-widest.ensures),
     ))
     (λ ne. let old = c.loop-node.invariant k (omega arith) in (
