@@ -290,12 +290,12 @@ inside_new m r at node old ys ps y l o some-there e =
     )).1
 
 -- the places of all nodes, in order
-pub all_placed : (run : Run) (r : ℕ) (nodes : List History) (ps : List ℕ) → run.nodes < 4294967296
-    → r ≡ run.nodes
-    → Blank run run.nodes nodes → length ps ≡ run.nodes
+pub all_placed : (run : Run) (r step : ℕ) (nodes : List History) (ps : List ℕ)
+    → run.nodes < 4294967296 → r ≡ run.nodes
+    → Blank run run.nodes step nodes → length ps ≡ run.nodes
     → ((i : ℕ) → i < run.nodes → get_or ps i 0 ≡ i + 1)
     → IsIndexed run.nodes r (length nodes) nodes ps
-all_placed run r nodes ps small room blank long each = record {
+all_placed run r step nodes ps small room blank long each = record {
   small = (omega arith, omega arith);
   few = omega (arith, blank.long);
   one = λ z. omega arith;

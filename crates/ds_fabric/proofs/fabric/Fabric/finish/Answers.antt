@@ -20,9 +20,10 @@ invariant_of-result g c = let (built, _, _) = c.self.invariant in
     let run : c.self.inside.run.now ≡ p.view.run =
     ap (λ (x : Base). x.run) c.self.view_is ∙ (sym c.requires.fits.run
     ∙ ap (λ (x : Showing). x.view.run) (sym c.of-shown.ensures)) in record {
-      keeps = subst (λ (m : Sat). Keeps m c.pass.inside.nodes.items) slots c.pass.invariant.keeps;
+      keeps = subst (λ (m : Sat). Keeps m c.pass.inside.histories) slots c.pass.invariant.keeps;
       indexed = subst (λ (x : Showing). IsIndexed x.view.run.nodes x.room
-          (length c.pass.inside.nodes.items) c.pass.inside.nodes.items c.pass.inside.places.items)
+          (length c.pass.inside.histories.nodes.items) c.pass.inside.histories.nodes.items
+          c.pass.inside.histories.places.items)
           (c.pass.view_is ∙ sym c.of-shown.ensures) c.pass.invariant.indexed;
       all = λ l h. subst (λ (x : Showing). holds x.view l ≡ true) (sym c.of-shown.ensures)
           (c.requires.all l (subst (λ (r : Run). l < r.nodes) (sym run
