@@ -25,7 +25,7 @@ use Rattle.ds_fabric.specs.declared.histories.Histories.{Histories}
 use Rattle.ds_fabric.specs.Flight.{HasRoomFor}
 use Rattle.ds_fabric.specs.HistoryList.{stride_of, turns_told, StandsAt, words_of, room_of}
 use Rattle.ds_fabric.specs.Indexed.{came, IsWithout, IsIndexed, IsHistoryAt}
-use Rattle.ds_fabric.specs.Separated.{IsCopy, IsOwn, AreCopies, AreSeparated, AreWide, words_until}
+use Rattle.ds_fabric.specs.Separated.{IsCopy, IsOwn, AreSeparated, AreWide, words_until}
 use Rattle.ds_fabric.specs.Showing.{Tells, Keeps, IsPass}
 use Rattle.ds_fabric.proofs.HistoryLayout.{stride-low, stride-high, told_small}
 use Rattle.ds_fabric.proofs.PassMemory.{tells_moved}

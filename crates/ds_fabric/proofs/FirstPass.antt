@@ -1,8 +1,7 @@
 -- The histories of a pass before anything has fired: where the words of each node begin.
-use Rattle.std.proofs.Common.{◌≡◌, ◌≢◌, ◌⊎◌, inl, inr, ℕ, zero, suc, ◌+◌, ◌*◌, ◌<◌, ◌≤◌, List, [], ◌∷◌}
+use Rattle.std.proofs.Common.{◌≡◌, inl, inr, ℕ, zero, suc, ◌+◌, ◌*◌, ◌<◌, ◌≤◌, List, []}
 use Rattle.std.proofs.Common.{length, sym, refl, ap, ◌∙◌, subst, arith, cond, true, false, vec_capacity}
 use Rattle.std.proofs.lemmas.List.{get_or-replicate, length-replicate}
-use Rattle.std.proofs.lemmas.Bool.{false≢true}
 use mathlib.Core.Logic.{dite}
 use mathlib.Core.Option.{some}
 use native.Mathlib.Decide.{ℕ_discrete, dec_lt}
@@ -18,7 +17,7 @@ use Rattle.ds_rule.proofs.GetElemLemmas.{at_below, there_is, replicate-default, 
 use Rattle.ds_rule.proofs.PlaceLaws.{start-words, start_inside}
 use Rattle.ds_fabric.specs.Begun.{AreBegun, first_of}
 use Rattle.ds_fabric.specs.HistoryList.{StandsAt, stride_of, turns_told, words_of, room_of}
-use Rattle.ds_fabric.specs.Showing.{Blank, IsBlank, AreSideBySide, Tells, Keeps}
+use Rattle.ds_fabric.specs.Showing.{IsBlank, AreSideBySide, Keeps}
 use Rattle.ds_fabric.specs.declared.history.History.{History}
 use Rattle.ds_fabric.specs.declared.histories.Histories.{Histories}
 use Rattle.ds_fabric.proofs.HistoryLayout.{stride-low, stride-high}

@@ -1,5 +1,5 @@
 -- The next event of a node: what is known of it, and what its flight asks.
-use Rattle.std.proofs.Common.{◌≡◌, ℕ, suc, ◌+◌, ◌*◌, ◌<◌, ◌≤◌, true, List, length}
+use Rattle.std.proofs.Common.{◌≡◌, ℕ, ◌+◌, ◌<◌, ◌≤◌, true, List, length}
 use Rattle.std.proofs.Common.{sym, refl, ap, ◌∙◌, subst, arith, cond, ◌-◌, vec_capacity}
 use mathlib.Core.Logic.{dite}
 use native.Mathlib.Decide.{dec_lt}
@@ -22,13 +22,13 @@ use Rattle.ds_fabric.specs.Base.{IsInFlight, HasWritten}
 use Rattle.ds_fabric.specs.declared.history.History.{History}
 use Rattle.ds_fabric.specs.declared.histories.Histories.{Histories}
 use Rattle.ds_fabric.specs.Armed.{IsArmed}
-use Rattle.ds_fabric.specs.Flight.{HasRoomFor, HasRoomToFire, HasSameRoom}
+use Rattle.ds_fabric.specs.Flight.{HasRoomFor, HasSameRoom}
 use Rattle.ds_fabric.specs.Noted.{IsNextRole, HasRoomToNote}
 use Rattle.ds_fabric.specs.declared.buffers.Buffers.{Buffers}
 use Rattle.ds_fabric.specs.Looks.{LooksOn, Enough}
 use Rattle.ds_fabric.specs.HistoryList.{end_of, turn_of, offset_of, words_of, room_of}
 use Rattle.ds_fabric.specs.HistoryList.{stride_of, new_row}
-use Rattle.ds_fabric.specs.Showing.{Tells, Keeps, IsPass}
+use Rattle.ds_fabric.specs.Showing.{Tells, Keeps}
 use Rattle.ds_fabric.specs.Stepped.{done}
 use Rattle.ds_fabric.proofs.HistoryLayout.{stride-low, stride-high, told_place}
 use Rattle.ds_fabric.proofs.PassMemory.{looks_keep, near-node, next_below}

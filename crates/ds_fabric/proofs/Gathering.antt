@@ -1,5 +1,5 @@
 -- What a pass has in memory after it took in another.
-use Rattle.std.proofs.Common.{◌≡◌, ◌≢◌, ℕ, ◌+◌, ◌<◌, ◌≤◌, true, false, List, ◌++◌, length, max}
+use Rattle.std.proofs.Common.{◌≡◌, ℕ, ◌+◌, ◌<◌, ◌≤◌, true, false, List, ◌++◌, length, max}
 use Rattle.std.proofs.Common.{sym, refl, ap, ◌∙◌, subst, arith, length-append, vec_capacity}
 use Rattle.std.proofs.Common.{⊎_elim, ◌⊎◌, inl, inr, cond, ◌||◌}
 use Rattle.std.proofs.lemmas.Bool.{false≢true}
@@ -20,7 +20,7 @@ use Rattle.ds_fabric.specs.Flight.{HasRoomFor}
 use Rattle.ds_fabric.specs.HistoryList.{words_of, room_of}
 use Rattle.ds_fabric.specs.Indexed.{IsIndexed, IsOneEach, AreBelow}
 use Rattle.ds_fabric.specs.Joined.{AreJoined, IsGathering}
-use Rattle.ds_fabric.specs.Showing.{Tells, Keeps, IsPass, AreSideBySide, IsCounted}
+use Rattle.ds_fabric.specs.Showing.{Keeps, IsPass, AreSideBySide, IsCounted}
 use Rattle.ds_fabric.proofs.Dealing.{words_own, room_own, words_together, room_together, tells_same}
 use Rattle.ds_fabric.proofs.PassMemory.{tells_moved, near-node}
 use Rattle.ds_fabric.proofs.Standing.{longer}

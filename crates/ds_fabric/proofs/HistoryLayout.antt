@@ -3,7 +3,6 @@ use Rattle.std.proofs.Common.{◌≡◌, ◌≢◌, ℕ, zero, suc, ◌+◌, ◌
 use Rattle.std.proofs.Common.{◌∷◌, ◌++◌, length, get_or, cond, true, false, suc-mul, mul-add, Bool}
 use Rattle.std.proofs.Common.{sym, refl, ap, ◌∙◌, arith, le-ltb, lt-ltb, eq-eqb, ne_eqb}
 use Rattle.std.proofs.Common.{length-append}
-use Rattle.std.proofs.Math.Nat.{mul-le-mul_right}
 use mathlib.Core.Logic.{dite}
 use native.Mathlib.Decide.{ℕ_discrete, dec_lt}
 use Rattle.ds_rule.specs.Run.{Run, node_of, next, turns, opens, opened}

@@ -1,5 +1,5 @@
 -- A pass through loads and firings.
-use Rattle.std.proofs.Common.{◌≡◌, ℕ, ◌+◌, ◌<◌, ◌≤◌, List, length, set, sym, refl, ap, ◌∙◌, subst}
+use Rattle.std.proofs.Common.{◌≡◌, ℕ, List, length, set, sym, refl, ap, ◌∙◌, subst}
 use Rattle.std.proofs.Common.{arith, length-set, ⊎_elim, vec_len, vec_capacity}
 use mathlib.Core.Option.{some}
 use lib.ListN.{get_elem?}

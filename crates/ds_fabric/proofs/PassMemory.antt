@@ -1,12 +1,12 @@
 -- What a pass has in memory, beside its view, through loads and firings.
-use Rattle.std.proofs.Common.{◌≡◌, ℕ, suc, ◌+◌, ◌<◌, ◌≤◌, ◌≢◌, true, List}
+use Rattle.std.proofs.Common.{◌≡◌, ℕ, ◌+◌, ◌<◌, ◌≤◌, ◌≢◌, true, List}
 use Rattle.std.proofs.Common.{[], ◌∷◌, ◌++◌, length}
 use Rattle.std.proofs.Common.{get_or, set, sym, refl, ap, ◌∙◌, subst, arith, le_trans}
 use Rattle.std.proofs.Common.{le_of_eq, length-set}
 use Rattle.std.proofs.Common.{get_or-set_other, get_or-set_same, length-append}
-use Rattle.std.proofs.Common.{⊎_elim, ◌⊎◌, inl, inr, false, ◌-◌, vec_capacity}
+use Rattle.std.proofs.Common.{⊎_elim, inl, inr, false, ◌-◌, vec_capacity}
 use Rattle.std.proofs.lemmas.List.{append_assoc}
-use Rattle.std.proofs.Common.{zero, ◌/◌, ◌*◌, cond, eq-eqb, ne_eqb}
+use Rattle.std.proofs.Common.{◌/◌, ◌*◌, cond, eq-eqb, ne_eqb}
 use Rattle.ds_rule.proofs.EventLaws.{opened-low}
 use mathlib.Core.Logic.{dite}
 use mathlib.Core.Option.{some}
@@ -203,12 +203,18 @@ beside_set : (nodes : List History) (i : ℕ) (h h' : History) → get_elem? nod
 beside_set nodes i h h' at first stride step old j j' g g' a a' n = ⊎_elim
     (λ e. ⊎_elim (λ e'. absurd (n (e.0 ∙ sym e'.0)))
     (λ e'. let b = old i j' h g' at e'.1 (λ z. n (e.0 ∙ z)) in
-    subst (λ (x : History). AreBeside x g') e.1 (step ∙ b.0, ⊎_elim
-    (λ y. inl (omega (arith, first, stride, y))) (λ y. inr (omega (arith, first, y))) b.1))
+    subst (λ (x : History). AreBeside x g') e.1 (
+      step ∙ b.0,
+      ⊎_elim
+          (λ y. inl (omega (arith, first, stride, y))) (λ y. inr (omega (arith, first, y))) b.1,
+    ))
     (at_set nodes i j' h' g' a'))
     (λ e. ⊎_elim (λ e'. let b = old j i g h e.1 at (λ z. n (z ∙ sym e'.0)) in
-    subst (AreBeside g) e'.1 (b.0 ∙ sym step, ⊎_elim
-    (λ y. inl (omega (arith, first, y))) (λ y. inr (omega (arith, first, stride, y))) b.1))
+    subst (AreBeside g) e'.1 (
+      b.0 ∙ sym step,
+      ⊎_elim
+          (λ y. inl (omega (arith, first, y))) (λ y. inr (omega (arith, first, stride, y))) b.1,
+    ))
     (λ e'. old j j' g g' e.1 e'.1 n) (at_set nodes i j' h' g' a'))
     (at_set nodes i j h' g a)
 

@@ -1,5 +1,5 @@
 -- Words that stand in a list, turn by turn, where others are written.
-use Rattle.std.proofs.Common.{◌≡◌, ℕ, zero, suc, ◌+◌, ◌*◌, ◌<◌, ◌≤◌, ◌⊎◌, inl, inr, ⊎_elim, List}
+use Rattle.std.proofs.Common.{◌≡◌, ℕ, suc, ◌+◌, ◌*◌, ◌<◌, ◌≤◌, ◌⊎◌, inl, inr, ⊎_elim, List}
 use Rattle.std.proofs.Common.{length, get_or, ◌++◌, sym, ap, ◌∙◌, arith, suc-mul, length-append, refl, ◌-◌}
 use Rattle.std.proofs.Common.{set, [], ◌∷◌, length-set, get_or-set_same, get_or-set_other}
 use Rattle.std.proofs.Math.Nat.{mul-le-mul_right}

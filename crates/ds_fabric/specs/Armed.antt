@@ -1,5 +1,5 @@
 -- All that the flight of a node's next event asks of a pass.
-use Rattle.std.specs.Prelude.{◌≡◌, ◌<◌, ◌+◌, ℕ, true}
+use Rattle.std.specs.Prelude.{◌≡◌, ◌<◌, ℕ, true}
 use mathlib.Core.Option.{some}
 use lib.ListN.{get_elem?}
 use Rattle.ds_rule.specs.Run.{Run, next, IsEnabledInRun}

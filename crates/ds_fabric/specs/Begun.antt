@@ -1,5 +1,5 @@
 -- The histories of a pass before anything has fired, and the room of a pass that is dealt.
-use Rattle.std.specs.Prelude.{◌≡◌, ℕ, ◌+◌, ◌*◌, ◌<◌, ◌≤◌, List, [], ◌∷◌, true, false, zero, suc}
+use Rattle.std.specs.Prelude.{◌≡◌, ℕ, ◌+◌, ◌*◌, ◌<◌, ◌≤◌, [], ◌∷◌, true, false, zero, suc}
 use Rattle.std.specs.Prelude.{length, slice_index, vec_capacity}
 use Rattle.ds_rule.specs.Run.{Run}
 use Rattle.ds_fabric.specs.Flight.{HasRoomFor}

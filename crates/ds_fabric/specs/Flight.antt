@@ -1,7 +1,6 @@
 -- What the flight of an event asks and changes of the room for it.
-use Rattle.std.specs.Prelude.{◌≡◌, ◌+◌, ◌<◌, ◌≤◌, ℕ, length, vec_len, vec_capacity}
+use Rattle.std.specs.Prelude.{◌≡◌, ◌+◌, ◌≤◌, ℕ, length, vec_capacity}
 use Rattle.ds_rule.specs.Run.{Run}
-use Rattle.ds_rule.specs.Words.{width}
 use Rattle.ds_rule.specs.Sound.{read_words}
 use Rattle.ds_fabric.specs.HistoryList.{stride_of, room_of, end_of}
 use Rattle.ds_fabric.specs.declared.buffers.Buffers.{Buffers}

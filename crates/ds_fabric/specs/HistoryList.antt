@@ -1,6 +1,6 @@
 -- What the history of a node tells: firing by firing the row, where it is an opening, and the
 -- ticket; and where these words stand in a list.
-use Rattle.std.specs.Prelude.{◌≡◌, ℕ, ◌+◌, ◌-◌, ◌*◌, ◌<◌, ◌≤◌, ◌⊎◌, List, [], ◌∷◌, ◌++◌, cond, nat_lt}
+use Rattle.std.specs.Prelude.{◌≡◌, ℕ, ◌+◌, ◌-◌, ◌*◌, ◌<◌, ◌≤◌, List, [], ◌∷◌, ◌++◌, cond, nat_lt}
 use Rattle.std.specs.Prelude.{slice_index, length, true, zero, suc, vec_capacity}
 use Rattle.ds_rule.specs.Run.{Run, next, turns, opens, opened}
 use Rattle.ds_rule.specs.Words.{width}

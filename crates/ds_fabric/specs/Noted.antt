@@ -1,10 +1,9 @@
 -- What a history keeps of the firing of its node.
-use Rattle.std.specs.Prelude.{◌≡◌, ◌≢◌, ℕ, ◌+◌, ◌<◌, ◌≤◌, ◌∷◌, ◌++◌, [], List, length, vec_len, vec_capacity}
+use Rattle.std.specs.Prelude.{◌≡◌, ℕ, ◌+◌, ◌<◌, ◌≤◌, ◌∷◌, ◌++◌, [], List, vec_len, vec_capacity}
 use Rattle.std.specs.Prelude.{slice_set}
 use mathlib.Core.Option.{some}
 use lib.ListN.{get_elem?}
-use Rattle.ds_rule.specs.Run.{Run, next, opens, turns}
-use Rattle.ds_rule.specs.Sound.{read_words}
+use Rattle.ds_rule.specs.Run.{Run, next, opens}
 use Rattle.ds_rule.specs.Event.{fired_of, is_opening}
 use Rattle.ds_rule.specs.declared.event_role.EventRole.{EventRole}
 use Rattle.ds_fabric.specs.declared.history.History.{History}

@@ -29,12 +29,7 @@ impl<'a, V: RunValues, C: Compute> Fabric<'a, V, C> {
         ensures same { Stays self.now.memory pass.old pass.new }
         ensures fires { FiresWith self.now.run pass.old.view pass.new.view node result }
     {
-        self.fire_node(
-            &mut pass.seat,
-            &mut pass.histories,
-            node,
-            &mut pass.scratch,
-        )
+        self.fire_node(&mut pass.seat, &mut pass.histories, node, &mut pass.scratch)
     }
 
     // Fires the next event of the node of a pass, whose parts these are, in this scratch.

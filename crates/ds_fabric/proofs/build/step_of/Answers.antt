@@ -1,4 +1,4 @@
-use Rattle.std.proofs.Common.{◌≡◌, ◌<◌, ◌+◌, ◌∙◌, ℕ, ap, arith, refl, sym}
+use Rattle.std.proofs.Common.{◌+◌, ◌∙◌, ap, arith, refl}
 use Rattle.ds_rule.specs.Run.{Run}
 use Rattle.ds_fabric.specs.Begun.{first_of}
 use Rattle.ds_fabric.proofs.FirstPass.{first_small, first_next}

@@ -1,6 +1,4 @@
-use Rattle.std.proofs.Common.{◌≡◌, ◌<◌, ◌∙◌, ◌++◌, ◌∷◌, [], ℕ, List, ap, arith, subst, sym, get_or, vec_len}
-use mathlib.Core.Option.{some}
-use lib.ListN.{get_elem?}
+use Rattle.std.proofs.Common.{◌≡◌, ◌∙◌, ◌++◌, ◌∷◌, [], ℕ, List, ap, arith, subst, sym}
 use Rattle.ds_rule.specs.Run.{Run}
 use Rattle.ds_rule.specs.Plays.{Sat, after_depart, after_draw, after_publish}
 use Rattle.ds_rule.proofs.GetElemLemmas.{at_below, at_get, same_at}
@@ -99,25 +97,25 @@ returns-clause-noted g c h at = let a = (goal.at.returns-clause-noted g c).After
     let u : HasTold run c.args.histories.now c.note.new.self c.args.at
     (new_row run h.node h.fired ++ c.publish-ticket.result ∷ []) =
     subst (HasTold run c.args.histories.now c.note.new.self c.args.at) told (record {
-        old = t.old;
-        new = t.new;
-        there = t.there;
-        nodes = t.nodes;
-        nodes_room = t.nodes_room;
-        places = t.places;
-        apart = t.apart;
-        from_room = t.from_room ∙ c.prepare.ensures.room.from;
-        told_room = t.told_room ∙ c.prepare.ensures.room.told;
-        noted = record {
-          node = t.noted.node;
-          fired = t.noted.fired;
-          stride = t.noted.stride;
-          first = t.noted.first;
-          step = t.noted.step;
-          room = t.noted.room;
-          written = t.noted.written;
-        };
-      }) in
+      old = t.old;
+      new = t.new;
+      there = t.there;
+      nodes = t.nodes;
+      nodes_room = t.nodes_room;
+      places = t.places;
+      apart = t.apart;
+      from_room = t.from_room ∙ c.prepare.ensures.room.from;
+      told_room = t.told_room ∙ c.prepare.ensures.room.told;
+      noted = record {
+        node = t.noted.node;
+        fired = t.noted.fired;
+        stride = t.noted.stride;
+        first = t.noted.first;
+        step = t.noted.step;
+        room = t.noted.room;
+        written = t.noted.written;
+      };
+    }) in
     record {
       told = u;
       old_is = same_at c.args.histories.now.nodes.items c.args.at u.old h u.there at;

@@ -1,6 +1,4 @@
 use Rattle.std.proofs.Common.{◌≡◌, ◌+◌, ◌∙◌, ℕ, ap, arith, refl, subst, sym, true}
-use mathlib.Core.Option.{some}
-use lib.ListN.{get_elem?}
 use Rattle.ds_rule.specs.Run.{Run, next, turns, IsEnabledInRun}
 use Rattle.ds_rule.specs.Rule.{holds, seen}
 use Rattle.ds_rule.specs.Plays.{Sat}
@@ -8,7 +6,7 @@ use Rattle.ds_rule.specs.declared.view.View.{View}
 use Rattle.ds_rule.proofs.EventLaws.{node-next}
 use Rattle.ds_rule.proofs.GetElemLemmas.{same_at}
 use Rattle.ds_fabric.specs.Noted.{HasFired}
-use Rattle.ds_fabric.specs.Stepped.{done, FiresWith}
+use Rattle.ds_fabric.specs.Stepped.{done}
 use Rattle.ds_fabric.specs.declared.history.History.{History}
 use Rattle.ds_fabric.proofs.PassFirings.{pass_arms, fires_pass, fires_many}
 use Rattle.ds_fabric.proofs.PassMemory.{fires, landed}

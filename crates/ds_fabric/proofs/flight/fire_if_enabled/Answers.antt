@@ -11,12 +11,11 @@ use Rattle.ds_fabric.specs.Armed.{IsArmed}
 use Rattle.ds_fabric.specs.Indexed.{IsHistoryAt}
 use Rattle.ds_fabric.specs.Looks.{LooksOn, IsSeenLacking}
 use Rattle.ds_fabric.specs.Noted.{HasFired}
-use Rattle.ds_fabric.specs.Showing.{IsPass}
 use Rattle.ds_fabric.specs.Stepped.{FiresNext, done}
 use Rattle.ds_fabric.specs.declared.history.History.{History}
 use Rattle.ds_fabric.proofs.Flights.{Coming, arms, coming, near_run}
 use Rattle.ds_fabric.proofs.PassFirings.{looks_pass, fires_pass, fires_many}
-use Rattle.ds_fabric.proofs.PassMemory.{fires, landed}
+use Rattle.ds_fabric.proofs.PassMemory.{fires}
 use Rattle.ds_fabric.proofs.flight.fire_if_enabled.Given
 use Rattle.ds_fabric.proofs.flight.fire_if_enabled.Goals as goal
 use Rattle.ds_fabric.proofs.flight.fire_if_enabled.Goals.{After-index-history, After-turns-before}

@@ -1,4 +1,4 @@
-use Rattle.std.proofs.Common.{◌≡◌, ◌+◌, ◌/◌, ◌++◌, ◌∙◌, ℕ, List, ap, arith, sym, subst}
+use Rattle.std.proofs.Common.{◌≡◌, ◌+◌, ◌/◌, ◌∙◌, ℕ, ap, arith, sym, subst}
 use Rattle.std.proofs.Common.{refl, true, []}
 use Rattle.std.proofs.lemmas.Bool.{false≢true}
 use Rattle.ds_rule.specs.Run.{Run, next, opens, opened}
@@ -7,15 +7,13 @@ use Rattle.ds_rule.specs.Rule.{seen}
 use Rattle.ds_rule.specs.Words.{width}
 use Rattle.ds_rule.specs.Plays.{Sat}
 use Rattle.ds_fabric.specs.Base.{IsInFlight}
-use Rattle.ds_fabric.specs.declared.history.History.{History}
 use Rattle.ds_fabric.proofs.Flights.{still_flies}
 use Rattle.ds_rule.specs.declared.view.View.{View}
 use Rattle.ds_rule.proofs.GetElemLemmas.{by_bool}
-use Rattle.std.proofs.lemmas.List.{append-nil}
 use Rattle.ds_rule.proofs.EventLaws.{even_opens, opened-low}
 use Rattle.ds_fabric.specs.HistoryList.{new_row}
 use Rattle.ds_fabric.proofs.PassMemory.{within}
-use Rattle.ds_fabric.proofs.HistoryLayout.{length-even, new_row-opens, new_row-else}
+use Rattle.ds_fabric.proofs.HistoryLayout.{new_row-opens, new_row-else}
 use Rattle.ds_fabric.proofs.flight.prepare.Goals as goal
 
 -- how often a latch has opened, where it opens next

@@ -1,6 +1,4 @@
-use Rattle.std.proofs.Common.{◌≡◌, ◌<◌, ◌≤◌, ◌+◌, ℕ, List, length, refl, arith, sym, ap}
-use Rattle.std.proofs.Common.{get_or}
-use Rattle.ds_rule.proofs.GetElemLemmas.{at_get}
+use Rattle.std.proofs.Common.{refl, arith}
 use Rattle.ds_fabric.proofs.WordsInLists.{goes_on, written_one}
 use Rattle.ds_fabric.proofs.histories.write_at.Goals as goal
 

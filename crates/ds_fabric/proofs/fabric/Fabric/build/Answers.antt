@@ -1,4 +1,4 @@
-use Rattle.std.proofs.Common.{◌≡◌, ◌∙◌, ℕ, List, [], ap, arith, subst, sym, length}
+use Rattle.std.proofs.Common.{◌≡◌, ◌∙◌, ℕ, [], ap, arith, subst, sym, length}
 use Rattle.ds_base.specs.Scratch.{Memory, Remembers}
 use Rattle.ds_rule.specs.Run.{Run}
 use Rattle.ds_rule.specs.Rule.{first_view}

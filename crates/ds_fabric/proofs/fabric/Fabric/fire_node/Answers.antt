@@ -1,4 +1,4 @@
-use Rattle.std.proofs.Common.{◌≡◌, ◌∙◌, ℕ, ap, sym, subst}
+use Rattle.std.proofs.Common.{◌∙◌, ℕ, ap, sym, subst}
 use Rattle.ds_rule.specs.Run.{Run, next, IsEnabledInRun}
 use Rattle.ds_rule.specs.Rule.{seen}
 use Rattle.ds_fabric.specs.Base.{Base}

@@ -1,4 +1,4 @@
-use Rattle.std.proofs.Common.{◌≡◌, ◌<◌, ◌≤◌, ◌+◌, ◌*◌, ◌++◌, ◌∷◌, [], ◌∙◌, ℕ, List, Bool, true, false, length}
+use Rattle.std.proofs.Common.{◌≡◌, ◌≤◌, ◌+◌, ◌++◌, ◌∷◌, [], ◌∙◌, ℕ, List, Bool, length}
 use Rattle.std.proofs.Common.{get_or, refl, arith, sym, ap, subst, cond, vec_len, vec_capacity, length-append}
 use mathlib.Core.Option.{some}
 use lib.ListN.{get_elem?}
@@ -8,7 +8,6 @@ use Rattle.ds_fabric.specs.HistoryList.{IsWritten, start_of, end_of, offset_of, 
 use Rattle.ds_fabric.specs.Noted.{HasRoomToNote, IsNextRole, HasSpan}
 use Rattle.ds_fabric.specs.declared.history.History.{History}
 use Rattle.ds_fabric.proofs.WordsInLists.{ends_turn}
-use Rattle.ds_fabric.proofs.histories.Histories.note.Given
 use Rattle.ds_fabric.proofs.histories.Histories.note.Goals as goal
 use Rattle.ds_fabric.proofs.histories.Histories.note.Goals.{After-span-start}
 
