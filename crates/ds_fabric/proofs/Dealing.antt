@@ -4,6 +4,7 @@ use Rattle.std.proofs.Common.{◌≡◌, ◌≢◌, ℕ, zero, suc, ◌+◌, ◌
 use Rattle.std.proofs.Common.{List, [], ◌∷◌, ◌++◌, length, take, drop, get_or, replicate, cond}
 use Rattle.std.proofs.Common.{sym, refl, ap, ◌∙◌, subst, arith, suc-mul, length-append, length-set}
 use Rattle.std.proofs.Common.{get_or-set_other, get_or-set_same, eq-eqb, ne_eqb, vec_capacity}
+use Rattle.std.proofs.Common.{⊎_elim}
 use Rattle.std.proofs.lemmas.List.{length-take-le, length-drop, get_or-take, get_or-drop}
 use Rattle.std.proofs.lemmas.List.{length-replicate}
 use Rattle.std.proofs.lemmas.Bool.{false≢true}
@@ -18,23 +19,17 @@ use Rattle.ds_rule.specs.Rule.{holds, tickets, seen}
 use Rattle.ds_rule.specs.Plays.{Sat, with_cut, without_cut, only_cut}
 use Rattle.ds_rule.specs.declared.view.View.{View}
 use Rattle.ds_rule.proofs.GetElemLemmas.{same_at, at_below, there_is, replicate-default, has_below}
-use Rattle.ds_rule.proofs.GetElemLemmas.{only_item, by_bool, get-first, get-second}
+use Rattle.ds_rule.proofs.GetElemLemmas.{only_item, by_bool, get-first, get-second, at_either}
 use Rattle.ds_fabric.specs.declared.buffers.Buffers.{Buffers}
 use Rattle.ds_fabric.specs.declared.history.History.{History}
 use Rattle.ds_fabric.specs.declared.histories.Histories.{Histories}
 use Rattle.ds_fabric.specs.Flight.{HasRoomFor}
-use Rattle.ds_fabric.specs.HistoryList.{stride_of, turns_told, StandsAt, words_of, room_of}
+use Rattle.ds_fabric.specs.HistoryList.{stride_of, turns_told, StandByTurn, list_of_words, list_room}
 use Rattle.ds_fabric.specs.Indexed.{came, IsWithout, IsIndexed, IsHistoryAt}
 use Rattle.ds_fabric.specs.Separated.{IsCopy, IsOwn, AreSeparated, AreWide, words_until}
 use Rattle.ds_fabric.specs.Showing.{Tells, Keeps, IsPass}
-use Rattle.ds_fabric.proofs.HistoryLayout.{stride-low, stride-high, told_small}
+use Rattle.ds_fabric.proofs.HistoryLayout.{stride_above, told_small}
 use Rattle.ds_fabric.proofs.PassMemory.{tells_moved}
-
--- a turn of a node has words
-pub stride_above : (run : Run) (l : ℕ) → 0 < stride_of run l
-stride_above run l = dite (dec_lt l run.design_nodes)
-    (λ low. omega (arith, stride-low run l low))
-    (λ high. omega (arith, stride-high run l (omega arith)))
 
 -- the words of one turn that the list has
 module _ (words : List ℕ) (h : History) (inside : h.first + h.stride ≤ h.step) where
@@ -84,8 +79,8 @@ module _ (words : List ℕ) (h : History) (inside : h.first + h.stride ≤ h.ste
 
 -- what stood in one list turn by turn stands so in a list of its own
 pub own_stands : (limit : ℕ) (h : History) (words own : List ℕ) (room : ℕ) (told : List ℕ)
-    → StandsAt words h.first h.stride h.step told → IsOwn limit h words own room
-    → StandsAt own 0 h.stride h.stride told
+    → StandByTurn words h.first h.stride h.step told → IsOwn limit h words own room
+    → StandByTurn own 0 h.stride h.stride told
 own_stands limit h words own room told s is = let n : ℕ = is.turns in
     let long : length own ≡ n * h.stride = ap (λ (l : List ℕ). length l) is.items
     ∙ long_until words h s.inside n is.whole in record {
@@ -109,11 +104,11 @@ copy_tells v limit g h words room limit-is o p =
       has = subst (λ (l : ℕ). holds v l ≡ true) (sym p.node) o.has;
       fired = p.fired ∙ (o.fired ∙ ap (seen v) (sym p.node));
       stride = p.stride ∙ (o.stride ∙ ap (stride_of v.run) (sym p.node));
-      turns = subst (λ (l : ℕ). StandsAt own h.first h.stride h.step
+      turns = subst (λ (l : ℕ). StandByTurn own h.first h.stride h.step
           (turns_told v.run (tickets v) l (seen v l))) (sym p.node)
-          (subst (λ (x : ℕ). StandsAt own x h.stride h.step told) (sym p.first)
-          (subst (λ (x : ℕ). StandsAt own 0 x h.step told) (sym p.stride)
-          (subst (λ (x : ℕ). StandsAt own 0 g.stride x told) (sym p.step)
+          (subst (λ (x : ℕ). StandByTurn own x h.stride h.step told) (sym p.first)
+          (subst (λ (x : ℕ). StandByTurn own 0 x h.step told) (sym p.stride)
+          (subst (λ (x : ℕ). StandByTurn own 0 g.stride x told) (sym p.step)
           (own_stands limit g words own (vec_capacity h.own) told o.turns p.own))));
       fits = omega (
         arith,
@@ -124,18 +119,18 @@ copy_tells v limit g h words room limit-is o p =
     }
 
 -- histories with lists of their own, and such with one list
-pub words_own : (s : Histories) (h : History) → s.apart ≡ true → words_of s h ≡ h.own.items
+pub words_own : (s : Histories) (h : History) → s.apart ≡ true → list_of_words s h ≡ h.own.items
 words_own s h e = ap (λ b. cond b h.own.items s.together.items) e
 
-pub room_own : (s : Histories) (h : History) → s.apart ≡ true → room_of s h ≡ vec_capacity h.own
+pub room_own : (s : Histories) (h : History) → s.apart ≡ true → list_room s h ≡ vec_capacity h.own
 room_own s h e = ap (λ b. cond b (vec_capacity h.own) (vec_capacity s.together)) e
 
 pub words_together : (s : Histories) (h : History) → s.apart ≡ false
-    → words_of s h ≡ s.together.items
+    → list_of_words s h ≡ s.together.items
 words_together s h e = ap (λ b. cond b h.own.items s.together.items) e
 
 pub room_together : (s : Histories) (h : History) → s.apart ≡ false
-    → room_of s h ≡ vec_capacity s.together
+    → list_room s h ≡ vec_capacity s.together
 room_together s h e = ap (λ b. cond b (vec_capacity h.own) (vec_capacity s.together)) e
 
 -- the same history in two lists that are one
@@ -146,8 +141,8 @@ tells_same v h ws xs n m a b t =
 
 -- a history in the list of its own, among others
 pub tells_own : (v : View) (s t : Histories) (h : History) → s.apart ≡ true → t.apart ≡ true
-    → Tells v h (words_of s h) (room_of s h) → Tells v h (words_of t h) (room_of t h)
-tells_own v s t h a b = tells_same v h (words_of s h) (words_of t h) (room_of s h) (room_of t h)
+    → Tells v h (list_of_words s h) (list_room s h) → Tells v h (list_of_words t h) (list_room t h)
+tells_own v s t h a b = tells_same v h (list_of_words s h) (list_of_words t h) (list_room s h) (list_room t h)
     (words_own s h a ∙ sym (words_own t h b)) (room_own s h a ∙ sym (room_own t h b))
 
 -- what a pass keeps has a length of 64 bits
@@ -206,10 +201,10 @@ copied me room limit s t limit-is q one x =
         counts = k.counts;
         listed = λ i h at. let g = old i h at in
             let p = c.each i g.0 h g.1 at in
-            tells_same v h h.own.items (words_of t h) (vec_capacity h.own) (room_of t h)
+            tells_same v h h.own.items (list_of_words t h) (vec_capacity h.own) (list_room t h)
             (sym (words_own t h x.apart)) (sym (room_own t h x.apart))
             (copy_tells v limit g.0 h s.together.items (vec_capacity s.together) limit-is
-            (tells_same v g.0 (words_of s g.0) s.together.items (room_of s g.0)
+            (tells_same v g.0 (list_of_words s g.0) s.together.items (list_room s g.0)
             (vec_capacity s.together) (words_together s g.0 one) (room_together s g.0 one)
             (k.listed i g.0 g.1)) p);
         found = λ l hl. let f = k.found l hl in
@@ -295,7 +290,7 @@ deals_left me me' s t i node h own own' k at same is out =
       counts = λ e hl. k.counts e (had (node_of v.run e) hl);
       listed = λ j g e. let at' = out.from j g e in let o = k.listed (came i n j) g at' in
           tells_own w s t g own own'
-          (tells_moved v w g (words_of s g) (room_of s g) o refl (else-same g.node
+          (tells_moved v w g (list_of_words s g) (list_room s g) o refl (else-same g.node
           (λ z. came-not i n j inside (at_below ys j g e)
           (k.distinct (came i n j) i g h at' at (z ∙ sym same))) ∙ o.has) refl (λ x on. refl));
       found = λ l hl. let f = k.found l (had l hl) in
@@ -352,8 +347,8 @@ deals_right me me' s t i node h own own' k at same is items =
       among = k.among;
       counts = λ e hl. k.counts e (had (node_of v.run e) hl);
       listed = λ j g e.
-          subst (λ (x : History). Tells w x (words_of t x) (room_of t x)) (one j g e).1
-          (tells_own w s t h own own' (tells_moved v w h (words_of s h) (room_of s h) old refl
+          subst (λ (x : History). Tells w x (list_of_words t x) (list_room t x)) (one j g e).1
+          (tells_own w s t h own own' (tells_moved v w h (list_of_words s h) (list_room s h) old refl
           (ap (holds w) same ∙ here) refl (λ x on. refl)));
       found = λ l hl. (
         0,
@@ -417,3 +412,19 @@ dealt_pass me me' run room s t i node h run-is own own' k at same is items o roo
           (subst (λ (l : ℕ). HasRoomFor R l t.buffers) (sym same)
           (subst (λ (r : Run). HasRoomFor r node t.buffers) run-is buffers));
     })
+
+-- one copy more
+pub copied_more : (limit n : ℕ) (words : List ℕ) (gs hs zs : List History) (g h : History)
+    → length hs ≡ n
+    → ((i : ℕ) (a b : History) → get_elem? gs i ≡ some a → get_elem? hs i ≡ some b
+    → IsCopy limit words a b)
+    → get_elem? gs n ≡ some g → IsCopy limit words g h → zs ≡ hs ++ h ∷ []
+    → (i : ℕ) (a b : History) → get_elem? gs i ≡ some a → get_elem? zs i ≡ some b
+    → IsCopy limit words a b
+copied_more limit n words gs hs zs g h long old at copy is i a b at-a at-b = ⊎_elim
+    (λ p. old i a b at-a p)
+    (λ p. let o = only_item h b p.0 p.2 in let e : i ≡ n = omega (arith, p.1, o.0, long) in
+    subst (λ (x : History). IsCopy limit words a x) o.1
+    (subst (λ (x : History). IsCopy limit words x h)
+    (same_at gs n g a at (subst (λ (j : ℕ). get_elem? gs j ≡ some a) e at-a)) copy))
+    (at_either hs (h ∷ []) i b (subst (λ (l : List History). get_elem? l i ≡ some b) is at-b))

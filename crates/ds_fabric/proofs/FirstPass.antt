@@ -15,8 +15,8 @@ use Rattle.ds_rule.specs.declared.view.View.{View}
 use Rattle.ds_rule.proofs.EventLaws.{turns-none}
 use Rattle.ds_rule.proofs.GetElemLemmas.{at_below, there_is, replicate-default, held_inside}
 use Rattle.ds_rule.proofs.PlaceLaws.{start-words, start_inside}
-use Rattle.ds_fabric.specs.Begun.{AreBegun, first_of}
-use Rattle.ds_fabric.specs.HistoryList.{StandsAt, stride_of, turns_told, words_of, room_of}
+use Rattle.ds_fabric.specs.Begun.{AreUnfired, first_word_of}
+use Rattle.ds_fabric.specs.HistoryList.{StandByTurn, stride_of, turns_told, list_of_words, list_room}
 use Rattle.ds_fabric.specs.Showing.{IsBlank, AreSideBySide, Keeps}
 use Rattle.ds_fabric.specs.declared.history.History.{History}
 use Rattle.ds_fabric.specs.declared.histories.Histories.{Histories}
@@ -24,7 +24,7 @@ use Rattle.ds_fabric.proofs.HistoryLayout.{stride-low, stride-high}
 
 -- the words of the nodes before one are no more than those of the table and two a node
 first_few : (run : Run) (n : ℕ) → IsSound run → n ≤ run.nodes
-    → first_of run n ≤ place run n 0 0 + 2 * n
+    → first_word_of run n ≤ place run n 0 0 + 2 * n
 first_few run zero sound h = omega arith
 first_few run (suc n) sound h = let e : n + 1 ≡ suc n = omega arith in
     let wide : stride_of run n ≤ width run n + 2 = dite (dec_lt n run.design_nodes)
@@ -39,7 +39,7 @@ first_few run (suc n) sound h = let e : n + 1 ≡ suc n = omega arith in
     )
 
 pub first_small : (run : Run) (n : ℕ) → IsSound run → n ≤ run.nodes
-    → first_of run n < 18446744073709551616
+    → first_word_of run n < 18446744073709551616
 first_small run n sound h = omega (
   arith,
   first_few run n sound h,
@@ -48,21 +48,21 @@ first_small run n sound h = omega (
   sound.few,
 )
 
-pub first_next : (run : Run) (n : ℕ) → first_of run (n + 1) ≡ first_of run n + stride_of run n
-first_next run n = let e : n + 1 ≡ suc n = omega arith in ap (first_of run) e
+pub first_next : (run : Run) (n : ℕ) → first_word_of run (n + 1) ≡ first_word_of run n + stride_of run n
+first_next run n = let e : n + 1 ≡ suc n = omega arith in ap (first_word_of run) e
 
 -- the words of a node end before those of a later one begin
-pub first_up : (run : Run) (l m : ℕ) → l < m → first_of run l + stride_of run l ≤ first_of run m
+pub first_up : (run : Run) (l m : ℕ) → l < m → first_word_of run l + stride_of run l ≤ first_word_of run m
 first_up run l zero h = absurd (omega arith)
 first_up run l (suc m) h = dite (ℕ_discrete l m)
-    (λ e. omega (arith, ap (λ (x : ℕ). first_of run x + stride_of run x) e))
+    (λ e. omega (arith, ap (λ (x : ℕ). first_word_of run x + stride_of run x) e))
     (λ n. omega (arith, first_up run l m (omega arith)))
 
 -- the histories of the first n nodes, each at its place
 pub record AreLaidOut (run : Run) (n step : ℕ) (items : List History) : Type 0 where
   pub long : length items ≡ n
   pub each : (i : ℕ) (h : History) → get_elem? items i ≡ some h
-      → IsBlank run i step h × (h.first ≡ first_of run i)
+      → IsBlank run i step h × (h.first ≡ first_word_of run i)
 
 pub side_by_side : (run : Run) (n step : ℕ) (items : List History) → AreLaidOut run n step items
     → AreSideBySide items
@@ -76,13 +76,13 @@ side_by_side run n step items o i j g h at at' apart = let a = o.each i g at in
 
 -- the first pass: all nodes, with no firing
 pub first_keeps : (run : Run) (me : Sat) (s : Histories) → IsSound run
-    → me ≡ (first_view run, []) → AreBegun run s → Keeps me s
+    → me ≡ (first_view run, []) → AreUnfired run s → Keeps me s
 first_keeps run me s sound is begun =
     let v : View = first_view run in let blank = begun.blank in
     let none : (e : ℕ) → tickets v e ≡ [] = λ e. replicate-default (events run) e [] in
     let zero-seen : (l : ℕ) → seen v l ≡ 0 = λ l. replicate-default {A = ℕ} run.nodes l 0 in
     let inside : (l : ℕ) → holds v l ≡ true → l < run.nodes = λ l h. held_inside run.nodes l h in
-    let room : (h : History) → room_of s h ≡ vec_capacity s.together =
+    let room : (h : History) → list_room s h ≡ vec_capacity s.together =
     λ h. ap (λ b. cond b (vec_capacity h.own)
     (vec_capacity s.together)) begun.apart in
     let P : Sat → Type 0 = λ m. Keeps m s in
@@ -107,7 +107,7 @@ first_keeps run me s sound is begun =
                 )));
             fired = b.fired ∙ sym (zero-seen h.node);
             stride = b.stride ∙ ap (stride_of run) (sym b.node);
-            turns = subst (StandsAt (words_of s h) h.first h.stride h.step) (sym told) (record {
+            turns = subst (StandByTurn (list_of_words s h) h.first h.stride h.step) (sym told) (record {
               inside = omega (arith, b.inside, b.step_is);
               whole = λ k below. absurd (omega arith);
               same = λ k o low below. absurd (omega arith);

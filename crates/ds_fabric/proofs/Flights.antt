@@ -1,8 +1,6 @@
 -- The next event of a node: what is known of it, and what its flight asks.
 use Rattle.std.proofs.Common.{◌≡◌, ℕ, ◌+◌, ◌<◌, ◌≤◌, true, List, length}
 use Rattle.std.proofs.Common.{sym, refl, ap, ◌∙◌, subst, arith, cond, ◌-◌, vec_capacity}
-use mathlib.Core.Logic.{dite}
-use native.Mathlib.Decide.{dec_lt}
 use Rattle.std.proofs.Math.Nat.{mul-le-mul_right}
 use mathlib.Core.Option.{none, some}
 use lib.ListN.{get_elem?}
@@ -21,16 +19,16 @@ use Rattle.ds_rule.proofs.Publishes.{publishes}
 use Rattle.ds_fabric.specs.Base.{IsInFlight, HasWritten}
 use Rattle.ds_fabric.specs.declared.history.History.{History}
 use Rattle.ds_fabric.specs.declared.histories.Histories.{Histories}
-use Rattle.ds_fabric.specs.Armed.{IsArmed}
+use Rattle.ds_fabric.specs.Noted.{IsArmed}
 use Rattle.ds_fabric.specs.Flight.{HasRoomFor, HasSameRoom}
 use Rattle.ds_fabric.specs.Noted.{IsNextRole, HasRoomToNote}
 use Rattle.ds_fabric.specs.declared.buffers.Buffers.{Buffers}
 use Rattle.ds_fabric.specs.Looks.{LooksOn, Enough}
-use Rattle.ds_fabric.specs.HistoryList.{end_of, turn_of, offset_of, words_of, room_of}
+use Rattle.ds_fabric.specs.HistoryList.{end_of_turn, next_turn_of, offset_of, list_of_words, list_room}
 use Rattle.ds_fabric.specs.HistoryList.{stride_of, new_row}
 use Rattle.ds_fabric.specs.Showing.{Tells, Keeps}
 use Rattle.ds_fabric.specs.Stepped.{done}
-use Rattle.ds_fabric.proofs.HistoryLayout.{stride-low, stride-high, told_place}
+use Rattle.ds_fabric.proofs.HistoryLayout.{stride_above, told_place}
 use Rattle.ds_fabric.proofs.PassMemory.{looks_keep, near-node, next_below}
 
 -- a node that is held is one of the run
@@ -81,8 +79,8 @@ is_ready run u l event turn among near event_is turn_is within enough =
 -- the turn of the next event ends where there is room
 room_next : (v : View) (h : History) (words : List ℕ) (room : ℕ) → Tells v h words room
     → turns v.run (next v.run h.node (seen v h.node)) (seen v h.node) < v.run.limit
-    → end_of v.run h ≤ room
-room_next v h words room t below = let k : ℕ = turn_of v.run h in
+    → end_of_turn v.run h ≤ room
+room_next v h words room t below = let k : ℕ = next_turn_of v.run h in
     let less : k + 1 ≤ v.run.limit = omega (
       arith,
       below,
@@ -121,7 +119,7 @@ arms_enabled run me s i h run_is k buffers at on =
       room = record {
         stride = t.stride;
         inside = t.turns.inside;
-        room = room_next u h (words_of s h) (room_of s h) t below;
+        room = room_next u h (list_of_words s h) (list_room s h) t below;
         buffers = buffers;
       };
     }) on
@@ -143,12 +141,6 @@ arms run me me' s i h event before run_is k buffers at among e n below looks slo
     (subst (λ (r : Run). HasRoomFor r l s.buffers) (sym looks.run) buffers) at
     (is_ready run u l event (before + 1) among (near_run run me' s l run_is' k' t.has)
     event_is turn_is (omega (arith, below)) enough)
-
--- a turn of a node has a word at least
-pub some_word : (run : Run) (l : ℕ) → 0 < stride_of run l
-some_word run l = dite (dec_lt l run.design_nodes)
-    (λ low. omega (arith, stride-low run l low))
-    (λ high. omega (arith, stride-high run l (omega arith)))
 
 -- the firings of the node stay far below 64 bits
 pub few : (run : Run) (v : View) (l f : ℕ) → run.limit < 4611686018427387904 → f ≡ seen v l
@@ -214,9 +206,9 @@ can_note run v s b at h role sound a told room next-is =
       role_is = next-is;
       few = omega (arith, few run v l f sound.short a.fired a.ready);
       span = record {
-        wide = omega (arith, r.stride, some_word run l);
+        wide = omega (arith, r.stride, stride_above run l);
         inside = r.inside;
-        small = by_bool (end_of run h < 18446744073709551616) s.apart
+        small = by_bool (end_of_turn run h < 18446744073709551616) s.apart
             (λ own. omega (
               arith,
               r.room,

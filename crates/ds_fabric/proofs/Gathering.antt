@@ -17,7 +17,7 @@ use Rattle.ds_rule.proofs.Hands.{both-holds, both-tickets}
 use Rattle.ds_fabric.specs.declared.history.History.{History}
 use Rattle.ds_fabric.specs.declared.histories.Histories.{Histories}
 use Rattle.ds_fabric.specs.Flight.{HasRoomFor}
-use Rattle.ds_fabric.specs.HistoryList.{words_of, room_of}
+use Rattle.ds_fabric.specs.HistoryList.{list_of_words, list_room}
 use Rattle.ds_fabric.specs.Indexed.{IsIndexed, IsOneEach, AreBelow}
 use Rattle.ds_fabric.specs.Joined.{AreJoined, IsGathering}
 use Rattle.ds_fabric.specs.Showing.{Keeps, IsPass, AreSideBySide, IsCounted}
@@ -27,7 +27,7 @@ use Rattle.ds_fabric.proofs.Standing.{longer}
 
 -- the list of a history among others is that which it had
 abbrev HasItsList : Histories → Histories → History → Type 0
-HasItsList s t h = (words_of s h ≡ words_of t h) × (room_of s h ≡ room_of t h)
+HasItsList s t h = (list_of_words s h ≡ list_of_words t h) × (list_room s h ≡ list_room t h)
 
 its_list : (s t : Histories) (h : History) → t.apart ≡ s.apart
     → (s.apart ≡ false → t.together ≡ s.together) → HasItsList s t h
@@ -199,12 +199,12 @@ module _ (me he : Sat) (s o : Histories) (k : Keeps me s) (g : Keeps he o)
           counts = counted;
           listed = λ i x e. ⊎_elim
               (λ p. let q = k.listed i x p in let m = list-first i x p in
-              tells_same u x (words_of s x) (words_of t x) (room_of s x) (room_of t x) m.0 m.1
-              (tells_moved v u x (words_of s x) (room_of s x) q refl (yes-first x.node q.has)
+              tells_same u x (list_of_words s x) (list_of_words t x) (list_room s x) (list_room t x) m.0 m.1
+              (tells_moved v u x (list_of_words s x) (list_room s x) q refl (yes-first x.node q.has)
               (first-s x.node q.has) (λ n on. first-t n x.node on q.has)))
               (λ p. let q = g.listed p.0 x p.2 in let m = list-second p.0 x p.2 in
-              tells_same u x (words_of o x) (words_of t x) (room_of o x) (room_of t x) m.0 m.1
-              (tells_moved w u x (words_of o x) (room_of o x) q (sym run)
+              tells_same u x (list_of_words o x) (list_of_words t x) (list_room o x) (list_room t x) m.0 m.1
+              (tells_moved w u x (list_of_words o x) (list_room o x) q (sym run)
               (yes-second x.node q.has) (second-s x.node q.has)
               (λ n on. second-t n x.node (ap (λ (r : Run). node_of r n) (sym run) ∙ on) q.has)))
               (split i x e);

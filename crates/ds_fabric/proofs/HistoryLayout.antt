@@ -23,6 +23,12 @@ stride-low run l h = ap (λ b. cond b (width run l + 2) 1) (lt-ltb l run.design_
 pub stride-high : (run : Run) (l : ℕ) → run.design_nodes ≤ l → stride_of run l ≡ 1
 stride-high run l h = ap (λ b. cond b (width run l + 2) 1) (le-ltb l run.design_nodes h)
 
+-- a turn of a node has words
+pub stride_above : (run : Run) (l : ℕ) → 0 < stride_of run l
+stride_above run l = dite (dec_lt l run.design_nodes)
+    (λ low. omega (arith, stride-low run l low))
+    (λ high. omega (arith, stride-high run l (omega arith)))
+
 -- an opening has a row, any other firing none
 pub new_row-opens : (run : Run) (l f : ℕ) → opens run (next run l f) ≡ true
     → new_row run l f ≡ row run l (opened run l f + 1)

@@ -10,7 +10,6 @@ pub mod Finds
 pub mod Standing
 pub mod PassFirings
 pub mod FirstPass
-pub mod Copied
 pub mod Dealing
 pub mod Gathering
 pub mod Laying

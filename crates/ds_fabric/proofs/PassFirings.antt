@@ -7,7 +7,7 @@ use Rattle.atomic_table.proofs.Lists.{at_set}
 use Rattle.ds_rule.specs.Run.{Run, next, IsEnabledInRun}
 use Rattle.ds_rule.specs.Rule.{seen}
 use Rattle.ds_rule.specs.Plays.{Sat}
-use Rattle.ds_fabric.specs.Armed.{IsArmed}
+use Rattle.ds_fabric.specs.Noted.{IsArmed}
 use Rattle.ds_fabric.specs.Flight.{HasRoomFor}
 use Rattle.ds_fabric.specs.Indexed.{IsIndexed, IsHistoryAt}
 use Rattle.ds_fabric.specs.Looks.{LooksOn}

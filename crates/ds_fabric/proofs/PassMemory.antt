@@ -24,11 +24,11 @@ use Rattle.ds_rule.proofs.EventLaws.{node-next, turns-next, turns-other, event_b
 use Rattle.ds_rule.proofs.EventLaws.{even_opens, next-opens, turns-opening, node-opening}
 use Rattle.ds_fabric.specs.declared.history.History.{History}
 use Rattle.ds_fabric.specs.Looks.{LooksOn}
-use Rattle.ds_fabric.specs.HistoryList.{stride_of, new_row, turns_told, StandsAt, words_of}
-use Rattle.ds_fabric.specs.HistoryList.{room_of}
+use Rattle.ds_fabric.specs.HistoryList.{stride_of, new_row, turns_told, StandByTurn, list_of_words}
+use Rattle.ds_fabric.specs.HistoryList.{list_room}
 use Rattle.ds_fabric.specs.declared.histories.Histories.{Histories}
-use Rattle.ds_fabric.specs.HistoryList.{turn_of, offset_of, start_of, end_of}
-use Rattle.ds_fabric.specs.Noted.{IsNoted, HasFired}
+use Rattle.ds_fabric.specs.HistoryList.{next_turn_of, offset_of, start_of_words, end_of_turn}
+use Rattle.ds_fabric.specs.Noted.{HasNotedWords, HasFired}
 use Rattle.ds_fabric.specs.Showing.{Tells, Keeps, AreBeside, AreSideBySide}
 use Rattle.ds_fabric.specs.Stepped.{FiresNext, done, seen_at_departure}
 use Rattle.ds_fabric.proofs.LoadedViews.{has_after}
@@ -43,7 +43,7 @@ tells_moved v w h words room t run has same ticks = let l : ℕ = h.node in reco
   has = has;
   fired = t.fired ∙ sym same;
   stride = t.stride ∙ ap (λ (r : Run). stride_of r l) (sym run);
-  turns = subst (StandsAt words h.first h.stride h.step)
+  turns = subst (StandByTurn words h.first h.stride h.step)
       (sym (ap (λ (r : Run). turns_told r (tickets w) l (seen w l)) run
       ∙ (ap (turns_told v.run (tickets w) l) same
       ∙ told_same v.run (tickets v) (tickets w) l (seen v l) (λ g _.
@@ -73,7 +73,7 @@ looks_keep me me' s k q slots =
           let h' : holds v l ≡ true = sym (has l) ∙ h in
           ap (turns v.run e) (q.own l h') ∙ (k.counts e h' ∙ ap length (sym (ticks e))));
       listed = λ i h at. let t = k.listed i h at in
-          tells_moved v w h (words_of s h) (room_of s h) t q.run (has h.node ∙ t.has)
+          tells_moved v w h (list_of_words s h) (list_room s h) t q.run (has h.node ∙ t.has)
           (q.own h.node t.has) (λ e is. ticks e);
       found = λ l h. k.found l (sym (has l) ∙ h);
       distinct = k.distinct;
@@ -122,14 +122,14 @@ seen-else v l t x n = get_or-set_other v.seen l x (seen v l + 1) 0 n
 -- what the firing told stands in the list of its history
 told_more : (R : Run) (ts us : ℕ → List ℕ) (l seen' ticket : ℕ) (s t : Histories) (g h : History)
     → g.node ≡ l → g.fired ≡ seen' → g.stride ≡ stride_of R l
-    → StandsAt (words_of s g) g.first g.stride g.step (turns_told R ts l seen')
-    → IsNoted R s t g h (new_row R g.node g.fired ++ ticket ∷ [])
+    → StandByTurn (list_of_words s g) g.first g.stride g.step (turns_told R ts l seen')
+    → HasNotedWords R s t g h (new_row R g.node g.fired ++ ticket ∷ [])
     → turns_told R us l (seen' + 1)
     ≡ (turns_told R ts l seen' ++ new_row R l seen') ++ ticket ∷ []
-    → StandsAt (words_of t h) h.first h.stride h.step (turns_told R us l (seen' + 1))
+    → StandByTurn (list_of_words t h) h.first h.stride h.step (turns_told R us l (seen' + 1))
 told_more R ts us l seen' ticket s t g h node fired stride st f told =
     let f' : ℕ = g.fired in let x : ℕ = g.node in
-    let P : ℕ → ℕ → Type 0 = λ y n. StandsAt (words_of s g) g.first g.stride g.step
+    let P : ℕ → ℕ → Type 0 = λ y n. StandByTurn (list_of_words s g) g.first g.stride g.step
     (turns_told R ts y n) in
     let at-g = subst (λ (y : ℕ). P y f') (sym node) (subst (P l) (sym fired) st) in
     let p = told_place R ts x f' in let more : List ℕ = new_row R x f' ++ ticket ∷ [] in
@@ -138,59 +138,59 @@ told_more R ts us l seen' ticket s t g h node fired stride st f told =
     let k-is : k * g.stride ≡ k * stride_of R x = ap (λ (y : ℕ). k * y) wide in
     let o-is : offset_of R g ≡ cond (opens R (next R x f')) 0 (stride_of R x - 1) =
     ap (λ (y : ℕ). cond (opens R (next R x f')) 0 (y - 1)) wide in
-    let next-told = stands_more (words_of s g) (words_of t h) g.first g.stride g.step k
-    (offset_of R g) (start_of R g) (end_of R g) (turns_told R ts x f') more at-g f.written
+    let next-told = stands_more (list_of_words s g) (list_of_words t h) g.first g.stride g.step k
+    (offset_of R g) (start_of_words R g) (end_of_turn R g) (turns_told R ts x f') more at-g f.written
     (omega (arith, p.0, k-is, o-is)) refl refl
     (omega (arith, p.1, o-is, wide, length-append (new_row R x f') (ticket ∷ []))) in
     let same : turns_told R ts x f' ++ more ≡ turns_told R us l (seen' + 1) =
     sym (append_assoc (turns_told R ts x f') (new_row R x f') (ticket ∷ []))
     ∙ (ap (λ (y : ℕ). (turns_told R ts y f' ++ new_row R y f') ++ ticket ∷ []) node
     ∙ (ap (λ (y : ℕ). (turns_told R ts l y ++ new_row R l y) ++ ticket ∷ []) fired ∙ sym told)) in
-    subst (λ (y : ℕ). StandsAt (words_of t h) h.first h.stride y (turns_told R us l (seen' + 1)))
+    subst (λ (y : ℕ). StandByTurn (list_of_words t h) h.first h.stride y (turns_told R us l (seen' + 1)))
     (sym f.step)
-    (subst (λ (y : ℕ). StandsAt (words_of t h) h.first y g.step (turns_told R us l (seen' + 1)))
+    (subst (λ (y : ℕ). StandByTurn (list_of_words t h) h.first y g.step (turns_told R us l (seen' + 1)))
     (sym f.stride)
-    (subst (λ (y : ℕ). StandsAt (words_of t h) y g.stride g.step (turns_told R us l (seen' + 1)))
+    (subst (λ (y : ℕ). StandByTurn (list_of_words t h) y g.stride g.step (turns_told R us l (seen' + 1)))
     (sym f.first)
-    (subst (StandsAt (words_of t h) g.first g.stride g.step) same next-told)))
+    (subst (StandByTurn (list_of_words t h) g.first g.stride g.step) same next-told)))
 
 -- a history beside it has its words and its room still
 beside_stays : (v : View) (s t : Histories) (g h x : History) (told : List ℕ) → t.apart ≡ s.apart
     → (s.apart ≡ false → AreBeside x g) → h.first + h.stride ≤ h.step
-    → IsNoted v.run s t g h told → offset_of v.run g + length told ≤ g.stride
-    → Tells v x (words_of s x) (room_of s x) → Tells v x (words_of t x) (room_of t x)
+    → HasNotedWords v.run s t g h told → offset_of v.run g + length told ≤ g.stride
+    → Tells v x (list_of_words s x) (list_room s x) → Tells v x (list_of_words t x) (list_room t x)
 beside_stays v s t g h x told apart beside inside f fits o =
-    let R : Run = v.run in by_bool (Tells v x (words_of t x) (room_of t x)) s.apart
+    let R : Run = v.run in by_bool (Tells v x (list_of_words t x) (list_room t x)) s.apart
     (λ own. let own' = apart ∙ own in
-    let words : words_of t x ≡ words_of s x = ap (λ b. cond b x.own.items t.together.items) own'
+    let words : list_of_words t x ≡ list_of_words s x = ap (λ b. cond b x.own.items t.together.items) own'
     ∙ sym (ap (λ b. cond b x.own.items s.together.items) own) in
-    let room : room_of t x ≡ room_of s x =
+    let room : list_room t x ≡ list_room s x =
     ap (λ b. cond b (vec_capacity x.own) (vec_capacity t.together)) own'
     ∙ sym (ap (λ b. cond b (vec_capacity x.own) (vec_capacity s.together)) own) in
-    subst (λ (ws : List ℕ). Tells v x ws (room_of t x)) (sym words)
-    (subst (Tells v x (words_of s x)) (sym room) o))
+    subst (λ (ws : List ℕ). Tells v x ws (list_room t x)) (sym words)
+    (subst (Tells v x (list_of_words s x)) (sym room) o))
     (λ one. let one' = apart ∙ one in let b = beside one in
-    let old : words_of s x ≡ words_of s g = ap (λ b. cond b x.own.items s.together.items) one
+    let old : list_of_words s x ≡ list_of_words s g = ap (λ b. cond b x.own.items s.together.items) one
     ∙ sym (ap (λ b. cond b g.own.items s.together.items) one) in
-    let new : words_of t x ≡ words_of t h = ap (λ b. cond b x.own.items t.together.items) one'
+    let new : list_of_words t x ≡ list_of_words t h = ap (λ b. cond b x.own.items t.together.items) one'
     ∙ sym (ap (λ b. cond b h.own.items t.together.items) one') in
-    let room-old : room_of s x ≡ room_of s g =
+    let room-old : list_room s x ≡ list_room s g =
     ap (λ b. cond b (vec_capacity x.own) (vec_capacity s.together)) one
     ∙ sym (ap (λ b. cond b (vec_capacity g.own) (vec_capacity s.together)) one) in
-    let room-new : room_of t x ≡ room_of t h =
+    let room-new : list_room t x ≡ list_room t h =
     ap (λ b. cond b (vec_capacity x.own) (vec_capacity t.together)) one'
     ∙ sym (ap (λ b. cond b (vec_capacity h.own) (vec_capacity t.together)) one') in
     let told-x : List ℕ = turns_told R (tickets v) x.node (seen v x.node) in
-    let P : List ℕ → Type 0 = λ ws. StandsAt ws x.first x.stride x.step told-x in
-    let k : ℕ = turn_of R g in
-    let start-is : start_of R g ≡ k * x.step + g.first + offset_of R g =
+    let P : List ℕ → Type 0 = λ ws. StandByTurn ws x.first x.stride x.step told-x in
+    let k : ℕ = next_turn_of R g in
+    let start-is : start_of_words R g ≡ k * x.step + g.first + offset_of R g =
     ap (λ (y : ℕ). k * y + g.first + offset_of R g) (sym b.0) in
     record {
       has = o.has;
       fired = o.fired;
       stride = o.stride;
-      turns = subst P (sym new) (stands_else (words_of s g) (words_of t h) x.first x.stride x.step
-          k (offset_of R g) (start_of R g) (end_of R g) g.first g.stride told-x told
+      turns = subst P (sym new) (stands_else (list_of_words s g) (list_of_words t h) x.first x.stride x.step
+          k (offset_of R g) (start_of_words R g) (end_of_turn R g) g.first g.stride told-x told
           (subst P old o.turns) f.written start-is fits
           (omega (arith, b.0, inside, f.first, f.stride, f.step)) b.1);
       fits = omega (arith, o.fits, room-old, room-new, f.room);
@@ -226,8 +226,8 @@ fires_keep me me' s t i ticket h k at is fired =
     let v : View = me.0 in let l : ℕ = h.node in let w : View = landed v l ticket in
     let R : Run = v.run in let E : ℕ = coming v l in
     let nodes : List History = s.nodes.items in let h' : History = fired.told.new in
-    let f : IsNoted R s t h h' (new_row R h.node h.fired ++ ticket ∷ []) =
-    subst (λ (x : History). IsNoted R s t x h' (new_row R h.node h.fired ++ ticket ∷ []))
+    let f : HasNotedWords R s t h h' (new_row R h.node h.fired ++ ticket ∷ []) =
+    subst (λ (x : History). HasNotedWords R s t x h' (new_row R h.node h.fired ++ ticket ∷ []))
     fired.old_is fired.told.noted in
     let into : (j : ℕ) (x : History) → get_elem? t.nodes.items j ≡ some x
     → get_elem? (set nodes i h') j ≡ some x = λ j x e.
@@ -252,13 +252,13 @@ fires_keep me me' s t i ticket h k at is fired =
     let standing = told_more R (tickets v) (tickets w) l (seen v l) ticket s t h h' refl old.fired
     old.stride old.turns f (told_fires R (tickets v) (tickets w) l (seen v l) ticket counted
     (tickets-landed v l ticket E near-E refl) (λ e n. tickets-else v l ticket e n)) in
-    let new : Tells w h' (words_of t h') (room_of t h') = record {
+    let new : Tells w h' (list_of_words t h') (list_room t h') = record {
       has = ap (holds v) f.node ∙ old.has;
       fired = f.fired ∙ (ap (λ (x : ℕ). x + 1) old.fired ∙ sym seen-new);
       stride = f.stride ∙ (old.stride ∙ ap (stride_of R) (sym f.node));
-      turns = subst (λ (x : ℕ). StandsAt (words_of t h') h'.first h'.stride h'.step
+      turns = subst (λ (x : ℕ). StandByTurn (list_of_words t h') h'.first h'.stride h'.step
           (turns_told R (tickets w) x (seen w x))) (sym f.node)
-          (subst (λ (x : ℕ). StandsAt (words_of t h') h'.first h'.stride h'.step
+          (subst (λ (x : ℕ). StandByTurn (list_of_words t h') h'.first h'.stride h'.step
           (turns_told R (tickets w) l x)) (sym (seen-landed v l ticket l near-l refl)) standing);
       fits = omega (arith, old.fits, ap (λ (x : ℕ). R.limit * x) f.step, f.room);
     } in
@@ -295,10 +295,10 @@ fires_keep me me' s t i ticket h k at is fired =
           (λ off. ap (turns R e) (seen-else v l ticket x off)
           ∙ (k.counts e hx ∙ ap length (sym (far x e off refl))));
       listed = λ j g at'. ⊎_elim
-          (λ e. subst (λ (x : History). Tells w x (words_of t x) (room_of t x)) e.1 new)
+          (λ e. subst (λ (x : History). Tells w x (list_of_words t x) (list_room t x)) e.1 new)
           (λ e. let o = k.listed j g e.1 in let n : g.node ≢ l =
           λ same. e.0 (k.distinct j i g h e.1 at same) in
-          tells_moved v w g (words_of t g) (room_of t g)
+          tells_moved v w g (list_of_words t g) (list_room t g)
           (beside_stays v s t h h' g (new_row R h.node h.fired ++ ticket ∷ []) fired.told.apart
           (λ one. k.beside one j i g h e.1 at e.0) new.turns.inside f fits o)
           refl o.has (seen-else v l ticket g.node n) (λ x on. far g.node x n on))
@@ -379,7 +379,7 @@ fires run me me' s w l event turn t run_is k has q slots event_is turn_is within
 pub record Found (me : Sat) (s : Histories) (i node : ℕ) (h : History) : Type 0 where
   pub at : get_elem? s.nodes.items i ≡ some h
   pub node_is : h.node ≡ node
-  pub tells : Tells me.0 h (words_of s h) (room_of s h)
+  pub tells : Tells me.0 h (list_of_words s h) (list_room s h)
   pub has : holds me.0 node ≡ true
   pub near : node < me.0.run.nodes
 

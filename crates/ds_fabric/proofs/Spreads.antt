@@ -12,7 +12,7 @@ use Rattle.ds_rule.proofs.LogCounts.{ticket_below, ticket_of_some, ticket_of_one
 use Rattle.ds_rule.proofs.LogCounts.{node_inside, length-tickets_in_log, length-firings}
 use Rattle.ds_fabric.specs.declared.history.History.{History}
 use Rattle.ds_fabric.specs.declared.histories.Histories.{Histories}
-use Rattle.ds_fabric.specs.HistoryList.{ticket_in, words_of, room_of}
+use Rattle.ds_fabric.specs.HistoryList.{ticket_in, list_of_words, list_room}
 use Rattle.ds_fabric.specs.Showing.{Showing, IsRecord}
 use Rattle.ds_fabric.specs.Spread.{CanSpread, IsLeftOver, HasSpread}
 use Rattle.ds_fabric.proofs.HistoryTickets.{ticket_read, stands_in, counted}
@@ -20,7 +20,7 @@ use Rattle.ds_fabric.proofs.HistoryTickets.{ticket_read, stands_in, counted}
 module _ (p : Showing) (s : Histories) (design_nodes many : ℕ)
     (q : IsRecord p s design_nodes many) where
   abbrev pub W : History → List ℕ
-  W h = words_of s h
+  W h = list_of_words s h
 
   abbrev pub R : Run
   R = p.view.run
@@ -45,10 +45,10 @@ module _ (p : Showing) (s : Histories) (design_nodes many : ℕ)
       (omega (
         arith,
         below,
-        counted p.view h (W h) (room_of s h) e q.keeps.counts t here,
+        counted p.view h (W h) (list_room s h) e q.keeps.counts t here,
         ap (λ (xs : List ℕ). length xs) same,
       ))
-      ∙ ap some (sym ((ticket_read p.view h (W h) (room_of s h) e k t here below).0
+      ∙ ap some (sym ((ticket_read p.view h (W h) (list_room s h) e k t here below).0
       ∙ ap (λ (xs : List ℕ). get_or xs k 0) same))
 
   -- and there is one for each such place
@@ -57,7 +57,7 @@ module _ (p : Showing) (s : Histories) (design_nodes many : ℕ)
   fired-often i h at e k t here stands = omega (
     arith,
     at_below (tickets_in_log e log) k t stands,
-    counted p.view h (W h) (room_of s h) e q.keeps.counts (q.keeps.listed i h at) here,
+    counted p.view h (W h) (list_room s h) e q.keeps.counts (q.keeps.listed i h at) here,
     ap (λ (xs : List ℕ). length xs) (q.recorded.all e (omega (arith, here, near i h at))),
   )
 
@@ -66,7 +66,7 @@ module _ (p : Showing) (s : Histories) (design_nodes many : ℕ)
   can_spread i h at = record {
     design_nodes_is = q.design_nodes_is;
     inside = λ e here. record {
-      stands = stands_in p.view h (W h) (room_of s h) e (q.keeps.listed i h at) here;
+      stands = stands_in p.view h (W h) (list_room s h) e (q.keeps.listed i h at) here;
       below = λ k below. omega (
         arith,
         ticket_below e log k (ticket_in R h (W h) e k) (ticket-is i h at e k here below),

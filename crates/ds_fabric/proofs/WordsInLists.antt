@@ -6,7 +6,7 @@ use Rattle.std.proofs.Math.Nat.{mul-le-mul_right}
 use mathlib.Core.Logic.{dite}
 use native.Mathlib.Decide.{ℕ_discrete, dec_lt}
 use Rattle.ds_rule.proofs.GetElemLemmas.{get-first, get-second}
-use Rattle.ds_fabric.specs.HistoryList.{StandsAt, IsWritten}
+use Rattle.ds_fabric.specs.HistoryList.{StandByTurn, IsWritten}
 
 -- so many whole turns before another one
 pub turns_before : (k n s : ℕ) → k < n → k * s + s ≤ n * s
@@ -27,9 +27,9 @@ same_turn k n s a b low low' e = dite (ℕ_discrete k n)
 
 -- what was written stands behind what stood
 pub stands_more : (words words' : List ℕ) (first stride step k o start end : ℕ) (told more : List ℕ)
-    → StandsAt words first stride step told → IsWritten words words' start end more
+    → StandByTurn words first stride step told → IsWritten words words' start end more
     → length told ≡ k * stride + o → start ≡ k * step + first + o → end ≡ (k + 1) * step
-    → o + length more ≤ stride → StandsAt words' first stride step (told ++ more)
+    → o + length more ≤ stride → StandByTurn words' first stride step (told ++ more)
 stands_more words words' first stride step k o start end told more s w long start-is end-is fits =
     let n : ℕ = length told in
     let whole : (j : ℕ) → j * stride < length (told ++ more) → (j + 1) * step ≤ length words' =
@@ -82,11 +82,11 @@ stands_more words words' first stride step k o start end told more s w long star
 
 -- what stands beside what was written stays
 pub stands_else : (words words' : List ℕ) (first stride step k o start end first' stride' : ℕ)
-    (told more : List ℕ) → StandsAt words first stride step told
+    (told more : List ℕ) → StandByTurn words first stride step told
     → IsWritten words words' start end more → start ≡ k * step + first' + o
     → o + length more ≤ stride' → first' + stride' ≤ step
     → (first + stride ≤ first') ⊎ (first' + stride' ≤ first)
-    → StandsAt words' first stride step told
+    → StandByTurn words' first stride step told
 stands_else words words' first stride step k o start end first' stride' told more s w start-is fits inside beside =
     record {
       inside = s.inside;

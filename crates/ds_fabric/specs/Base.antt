@@ -8,7 +8,7 @@ use Rattle.ds_rule.specs.Words.{size, width}
 use Rattle.ds_rule.specs.Rule.{seen}
 use Rattle.ds_rule.specs.Rows.{IsStarts}
 use Rattle.ds_rule.specs.declared.view.View.{View}
-use Rattle.ds_fabric.specs.Ranged.{AreFirstEdges, AreReads}
+use Rattle.ds_fabric.specs.Ranged.{AreFirstEdges, AreReadWords}
 use Rattle.ds_fabric.specs.declared.index.Index.{Index}
 
 -- a table, its run, and what a scratch remembers in which its rows are computed
@@ -29,7 +29,7 @@ pub record IsBuilt (id : TableId) (key run : Run) (index : Index) : Type 0 where
   pub no_slot : id.slots ≡ 0
   pub started : IsStarts run index.starts.items
   pub ranged : AreFirstEdges run index.firsts.items
-  pub reads : AreReads run index.reads.items
+  pub reads : AreReadWords run index.reads.items
 
 -- the pass is live and in flight with the node's next event, and no word of it is written
 pub record IsAway (run : Run) (v : View) (l : ℕ) : Type 0 where

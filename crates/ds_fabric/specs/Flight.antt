@@ -2,7 +2,7 @@
 use Rattle.std.specs.Prelude.{◌≡◌, ◌+◌, ◌≤◌, ℕ, length, vec_capacity}
 use Rattle.ds_rule.specs.Run.{Run}
 use Rattle.ds_rule.specs.Sound.{read_words}
-use Rattle.ds_fabric.specs.HistoryList.{stride_of, room_of, end_of}
+use Rattle.ds_fabric.specs.HistoryList.{stride_of, list_room, end_of_turn}
 use Rattle.ds_fabric.specs.declared.buffers.Buffers.{Buffers}
 use Rattle.ds_fabric.specs.declared.history.History.{History}
 use Rattle.ds_fabric.specs.declared.histories.Histories.{Histories}
@@ -21,5 +21,5 @@ pub record HasRoomFor (run : Run) (node : ℕ) (b : Buffers) : Type 0 where
 pub record HasRoomToFire (run : Run) (s : Histories) (h : History) : Type 0 where
   pub stride : h.stride ≡ stride_of run h.node
   pub inside : h.first + h.stride ≤ h.step
-  pub room : end_of run h ≤ room_of s h
+  pub room : end_of_turn run h ≤ list_room s h
   pub buffers : HasRoomFor run h.node s.buffers

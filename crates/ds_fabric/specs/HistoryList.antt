@@ -29,7 +29,7 @@ turns_told run tickets l (suc f) =
 
 -- the words stand in a list of `step` words a turn, `stride` of them a turn, from word `first` of
 -- each turn on; of each turn that has begun the list has all words
-pub record StandsAt (words : List ℕ) (first stride step : ℕ) (told : List ℕ) : Type 0 where
+pub record StandByTurn (words : List ℕ) (first stride step : ℕ) (told : List ℕ) : Type 0 where
   pub inside : first + stride ≤ step
   pub whole : (k : ℕ) → k * stride < length told → (k + 1) * step ≤ length words
   pub same : (k o : ℕ) → o < stride → k * stride + o < length told
@@ -45,26 +45,26 @@ pub record IsWritten (old new : List ℕ) (start end : ℕ) (told : List ℕ) : 
       → slice_index new p ≡ slice_index old p
 
 -- the list in which the words of the history stand, and how many words it has room for
-abbrev pub words_of : Histories → History → List ℕ
-words_of s h = cond s.apart h.own.items s.together.items
+abbrev pub list_of_words : Histories → History → List ℕ
+list_of_words s h = cond s.apart h.own.items s.together.items
 
-abbrev pub room_of : Histories → History → ℕ
-room_of s h = cond s.apart (vec_capacity h.own) (vec_capacity s.together)
+abbrev pub list_room : Histories → History → ℕ
+list_room s h = cond s.apart (vec_capacity h.own) (vec_capacity s.together)
 
 -- how many turns the next event of the history's node has fired
-abbrev pub turn_of : Run → History → ℕ
-turn_of run h = turns run (next run h.node h.fired) h.fired
+abbrev pub next_turn_of : Run → History → ℕ
+next_turn_of run h = turns run (next run h.node h.fired) h.fired
 
 -- where in its turn the words of that event begin: a row, or the last word of the turn
 abbrev pub offset_of : Run → History → ℕ
 offset_of run h = cond (opens run (next run h.node h.fired)) 0 (h.stride - 1)
 
 -- where in the list they begin, and where the turn ends
-abbrev pub start_of : Run → History → ℕ
-start_of run h = turn_of run h * h.step + h.first + offset_of run h
+abbrev pub start_of_words : Run → History → ℕ
+start_of_words run h = next_turn_of run h * h.step + h.first + offset_of run h
 
-abbrev pub end_of : Run → History → ℕ
-end_of run h = (turn_of run h + 1) * h.step
+abbrev pub end_of_turn : Run → History → ℕ
+end_of_turn run h = (next_turn_of run h + 1) * h.step
 
 -- where the ticket of the event stands in a turn of so many words: behind that of an opening stands
 -- one word, behind any other none

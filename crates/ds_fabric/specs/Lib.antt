@@ -7,7 +7,6 @@ pub mod Looks
 pub mod Stepped
 pub mod HistoryList
 pub mod Flight
-pub mod Armed
 pub mod Noted
 pub mod Laid
 pub mod Indexed

@@ -10,7 +10,7 @@ pub record IsFrom (run : Run) (node n : ℕ) : Type 0 where
   pub above : (k : ℕ) → n ≤ k → k < length run.edges → node ≤ (edge_at run k).consumer
 
 -- how many words each node reads at most
-pub record AreReads (run : Run) (reads : List ℕ) : Type 0 where
+pub record AreReadWords (run : Run) (reads : List ℕ) : Type 0 where
   pub long : length reads ≡ run.nodes
   pub each : (l : ℕ) → l < run.nodes
       → slice_index reads l ≡ read_words run l (length run.edges)

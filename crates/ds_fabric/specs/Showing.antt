@@ -13,7 +13,7 @@ use Rattle.ds_rule.specs.Rule.{holds, tickets, seen, first_view}
 use Rattle.ds_rule.specs.Plays.{with_cut, without_cut, only_cut}
 use Rattle.ds_rule.specs.declared.view.View.{View}
 use Rattle.ds_fabric.specs.Base.{Base}
-use Rattle.ds_fabric.specs.HistoryList.{stride_of, turns_told, StandsAt, words_of, room_of}
+use Rattle.ds_fabric.specs.HistoryList.{stride_of, turns_told, StandByTurn, list_of_words, list_room}
 use Rattle.ds_fabric.specs.Flight.{HasRoomFor}
 use Rattle.ds_fabric.specs.Indexed.{IsOneEach, IsIndexed}
 use Rattle.ds_fabric.specs.declared.history.History.{History}
@@ -116,7 +116,7 @@ pub record Tells (v : View) (h : History) (words : List ℕ) (room : ℕ) : Type
   pub has : holds v h.node ≡ true
   pub fired : h.fired ≡ seen v h.node
   pub stride : h.stride ≡ stride_of v.run h.node
-  pub turns : StandsAt words h.first h.stride h.step
+  pub turns : StandByTurn words h.first h.stride h.step
       (turns_told v.run (tickets v) h.node (seen v h.node))
   pub fits : v.run.limit * h.step ≤ room
 
@@ -136,7 +136,7 @@ pub record Keeps (me : Me ℕ View) (s : Histories) : Type 0 where
   pub among : me.0.run.design_nodes ≤ me.0.run.nodes
   pub counts : IsCounted me.0
   pub listed : (i : ℕ) (h : History) → get_elem? s.nodes.items i ≡ some h
-      → Tells me.0 h (words_of s h) (room_of s h)
+      → Tells me.0 h (list_of_words s h) (list_room s h)
   pub found : (l : ℕ) → holds me.0 l ≡ true → (i : ℕ) × (h : History)
       × (get_elem? s.nodes.items i ≡ some h) × (h.node ≡ l)
   pub distinct : IsOneEach s.nodes.items

@@ -1,15 +1,15 @@
-//! How a table begins: its words, each node's first row among them, and a history for each node, with
-//! one list that has room for all firings.
+//! How a table begins: its words, each node's first row among them, and a history for each node,
+//! with one list that has room for all firings.
 ghost use Rattle.std.specs.Prelude.{ℕ, ◌≡◌, ◌<◌, ◌≤◌, ◌+◌, ◌*◌, ◌++◌, length, replicate};
 ghost use Rattle.std.specs.Prelude.{vec_capacity, IfOk, OnOk};
 ghost use Rattle.ds_rule.specs.Sound.{IsSound, read_words};
 ghost use Rattle.ds_rule.specs.Words.{width};
 ghost use Rattle.ds_rule.specs.Rows.{row};
 ghost use Rattle.ds_fabric.specs.Laid.{LaidBelow};
-ghost use Rattle.ds_fabric.specs.Begun.{AreBegun, IsRoomFor, first_of};
+ghost use Rattle.ds_fabric.specs.Begun.{AreUnfired, IsRoomFor, first_word_of};
 ghost use Rattle.ds_fabric.specs.Flight.{HasRoomFor};
 ghost use Rattle.ds_fabric.specs.HistoryList.{stride_of};
-ghost use Rattle.ds_fabric.specs.Ranged.{AreReads};
+ghost use Rattle.ds_fabric.specs.Ranged.{AreReadWords};
 ghost use Rattle.ds_fabric.specs.Showing.{Blank};
 
 use crate::buffers::Buffers;
@@ -101,8 +101,8 @@ pub fn histories<V: RunValues>(
     reads: &[usize],
 ) -> Result<Histories, OutOfMemory>
     requires sound { IsSound run.now }
-    requires reads { AreReads run.now reads.now }
-    ensures { IfOk result (AreBegun run.now) }
+    requires reads { AreReadWords run.now reads.now }
+    ensures { IfOk result (AreUnfired run.now) }
 {
     let step = step_of(run);
     let Some(words) = (run.limit() as usize).checked_mul(step) else {
@@ -124,7 +124,7 @@ pub fn histories<V: RunValues>(
 // How many words a turn of all nodes takes.
 fn step_of<V: RunValues>(run: &TableRun<V>) -> usize
     requires { IsSound run.now }
-    ensures { result ≡ first_of run.now run.now.nodes }
+    ensures { result ≡ first_word_of run.now run.now.nodes }
 {
     let mut step = 0;
     for node in 0..run.nodes() {
@@ -140,7 +140,7 @@ fn blank_nodes<V: RunValues>(
     step: usize,
 ) -> Result<Vec<History>, OutOfMemory>
     requires sound { IsSound run.now }
-    requires step { step ≡ first_of run.now run.now.nodes }
+    requires step { step ≡ first_word_of run.now run.now.nodes }
     ensures blank { IfOk result (λ v. Blank run.now run.now.nodes step v.items) }
     ensures room { IfOk result (λ v. run.now.nodes ≤ vec_capacity v) }
 {
@@ -168,7 +168,7 @@ fn buffers<V: RunValues>(
     reads: &[usize],
 ) -> Result<Buffers, OutOfMemory>
     requires sound { IsSound run.now }
-    requires reads { AreReads run.now reads.now }
+    requires reads { AreReadWords run.now reads.now }
     ensures { IfOk result (λ b. (l : ℕ) → l < run.now.nodes → HasRoomFor run.now l b) }
 {
     let mut most = 0;
@@ -212,7 +212,7 @@ pub fn room_for<V: RunValues>(
 /// How many words each node reads at most.
 pub fn reads<V: RunValues>(alloc: Global, run: &TableRun<V>) -> Result<Vec<usize>, OutOfMemory>
     requires { IsSound run.now }
-    ensures { IfOk result (λ v. AreReads run.now v.items) }
+    ensures { IfOk result (λ v. AreReadWords run.now v.items) }
 {
     let mut totals = zeros(alloc, run.nodes())?;
     let edges = run.edges();

@@ -8,7 +8,7 @@ ghost use Rattle.ds_rule.specs.Sound.{IsSound};
 ghost use Rattle.ds_rule.specs.Log.{Recorded};
 ghost use Rattle.ds_rule.specs.Rule.{holds, tickets};
 ghost use Rattle.ds_rule.specs.Plays.{taken_in};
-ghost use Rattle.ds_fabric.specs.Ranged.{AreReads};
+ghost use Rattle.ds_fabric.specs.Ranged.{AreReadWords};
 ghost use Rattle.ds_fabric.specs.Stepped.{Stepped, FiresIfEnabled};
 ghost use Rattle.ds_fabric.specs.Showing.{Belongs, IsFabricBegun, IsCounted, IsDealt, IsLeft, IsOf};
 ghost use Rattle.ds_fabric.specs.Showing.{Stays, IsStood, no_scratch};
@@ -91,7 +91,7 @@ impl<'a, V: RunValues, C: Compute> Fabric<'a, V, C> {
     ) -> Result<(Fabric<'a, V, C>, Seat<u8, View>), OutOfMemory>
         requires sound { IsSound run.now }
         requires openings { C.run openings.now ≡ run.now }
-        requires reads { AreReads run.now reads.items }
+        requires reads { AreReadWords run.now reads.items }
         ensures { IfOk result (λ r. IsStood run.now (C.memory openings.now) r.0 r.1.table_id
             r.1.me) }
     {

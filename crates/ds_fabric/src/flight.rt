@@ -15,7 +15,7 @@ ghost use Rattle.ds_fabric.specs.HistoryList.{new_row};
 ghost use Rattle.ds_fabric.specs.Noted.{HasFired};
 ghost use Rattle.ds_fabric.specs.Into.{AreInto};
 ghost use Rattle.ds_fabric.specs.Indexed.{IsHistoryAt};
-ghost use Rattle.ds_fabric.specs.Armed.{IsArmed};
+ghost use Rattle.ds_fabric.specs.Noted.{IsArmed};
 ghost use Rattle.ds_fabric.specs.Showing.{IsPass};
 ghost use Rattle.ds_fabric.specs.Stepped.{FiresWith, Stepped};
 ghost use Rattle.ds_fabric.specs.declared.history.History.{History};
@@ -28,7 +28,7 @@ use crate::counts::survey;
 use crate::histories::Histories;
 use crate::history::History;
 use crate::learnt::Learnt;
-use crate::opening::Opening;
+use crate::opening_in_flight::OpeningInFlight;
 use crate::rows::{read_rows, write_row};
 use crate::step::Step;
 use atomic_table::Seat;
@@ -223,7 +223,7 @@ fn prepare<V: RunValues, C: Compute>(
 {
     buffers.told.clear();
     if context.run.opens_next(history.node, history.fired) {
-        let opening = Opening {
+        let opening = OpeningInFlight {
             node: history.node,
             turn: EventRole::Opening.turns(history.fired) + 1,
         };
@@ -235,7 +235,7 @@ fn prepare<V: RunValues, C: Compute>(
 fn open_row<V: RunValues, C: Compute>(
     context: &Context<V, C>,
     seat: &mut Seat<u8, View>,
-    opening: Opening,
+    opening: OpeningInFlight,
     buffers: &mut Buffers,
     scratch: &mut Scratch,
 )

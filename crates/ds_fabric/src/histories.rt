@@ -2,7 +2,7 @@
 ghost use Rattle.std.specs.Prelude.{◌≡◌, ◌<◌, ◌≤◌, ◌+◌, ℕ, true, false, cond, length, IfOk, OnErr};
 ghost use Rattle.std.specs.Prelude.{OnOk, vec_len, vec_capacity};
 ghost use Rattle.ds_rule.specs.Run.{Run};
-ghost use Rattle.ds_fabric.specs.HistoryList.{IsWritten, words_of};
+ghost use Rattle.ds_fabric.specs.HistoryList.{IsWritten, list_of_words};
 ghost use Rattle.ds_fabric.specs.Indexed.{IsIndexed};
 ghost use Rattle.ds_fabric.specs.Joined.{AreJoined, IsGathering};
 ghost use Rattle.ds_fabric.specs.Noted.{HasNoted, HasRoomToNote};
@@ -40,7 +40,7 @@ impl Drop for Histories {
 impl Histories {
     /// The list in which the words of one of the histories stand.
     pub fn words<'a>(&'a self, history: &'a History) -> &'a [u64]
-        ensures { result.now ≡ words_of self.now history.now }
+        ensures { result.now ≡ list_of_words self.now history.now }
     {
         if self.apart {
             history.own.as_slice()

@@ -2,7 +2,7 @@
 ghost use Rattle.std.specs.Prelude.{◌≡◌, ◌<◌, ◌+◌, ◌*◌, ℕ, true, length};
 ghost use Rattle.ds_rule.specs.Run.{Run, turns, opens};
 ghost use Rattle.ds_rule.specs.Event.{is_opening};
-ghost use Rattle.ds_fabric.specs.HistoryList.{StandsIn, ticket_in, ticket_place, start_of, end_of};
+ghost use Rattle.ds_fabric.specs.HistoryList.{StandsIn, ticket_in, ticket_place, start_of_words, end_of_turn};
 ghost use Rattle.ds_fabric.specs.Noted.{IsNextRole, HasSpan};
 
 use ds_rule::EventRole;
@@ -45,12 +45,12 @@ impl History {
         words[k * self.step + self.first + place]
     }
 
-    /// Where in its list the words of the node's next event begin, whose role this is, and where the
-    /// turn ends.
+    /// Where in its list the words of the node's next event begin, whose role this is, and where
+    /// the turn ends.
     pub fn span(&self, role: EventRole) -> (usize, usize)
         requires { (run : Run) × IsNextRole run self.now role × HasSpan run self.now }
         ensures { (run : Run) → IsNextRole run self.now role
-            → (result.0 ≡ start_of run self.now) × (result.1 ≡ end_of run self.now) }
+            → (result.0 ≡ start_of_words run self.now) × (result.1 ≡ end_of_turn run self.now) }
     {
         let turn = role.turns(self.fired) as usize;
         let offset = if role.opens() { 0 } else { self.stride - 1 };

@@ -2,7 +2,7 @@
 ghost use Rattle.std.specs.Prelude.{◌≡◌, ◌<◌, ◌≤◌, ◌+◌, ℕ, List, IfOk, length, replicate};
 ghost use Rattle.ds_rule.specs.Sound.{IsSound, edge_at};
 ghost use Rattle.ds_rule.specs.Rows.{IsStarts};
-ghost use Rattle.ds_fabric.specs.Ranged.{IsFrom, AreFirstEdges, AreReads};
+ghost use Rattle.ds_fabric.specs.Ranged.{IsFrom, AreFirstEdges, AreReadWords};
 ghost use Rattle.ds_rule.specs.declared.table_run.DataEdge.{DataEdge};
 
 use ds_base::OutOfMemory;

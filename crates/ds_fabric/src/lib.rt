@@ -27,7 +27,7 @@ mod history;
 mod incoming;
 mod index;
 mod learnt;
-mod opening;
+mod opening_in_flight;
 mod pass;
 mod places;
 mod record;

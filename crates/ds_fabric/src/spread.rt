@@ -3,7 +3,7 @@ ghost use Rattle.std.specs.Prelude.{ℕ, List, ◌≡◌, ◌<◌, ◌+◌, ◌*
 ghost use mathlib.Core.Option.{some};
 ghost use lib.ListN.{get_elem?};
 ghost use Rattle.ds_rule.specs.Run.{Run};
-ghost use Rattle.ds_fabric.specs.HistoryList.{words_of};
+ghost use Rattle.ds_fabric.specs.HistoryList.{list_of_words};
 ghost use Rattle.ds_fabric.specs.Showing.{Showing, IsRecord};
 ghost use Rattle.ds_fabric.specs.Spread.{IsInside, IsFilled, IsElsewhereKept, IsLeftOver};
 ghost use Rattle.ds_fabric.specs.Spread.{HasSpread};
@@ -29,7 +29,7 @@ pub fn spread_all(design_nodes: usize, histories: &Histories, out: &mut [EventId
     ensures long { length out.new ≡ length out.old }
     ensures filled { (p : Showing) → IsRecord p histories.now design_nodes (length out.old)
         → (i : ℕ) (h : History) → get_elem? histories.now.nodes.items i ≡ some h
-        → HasSpread p.view.run h (words_of histories.now h) out.new }
+        → HasSpread p.view.run h (list_of_words histories.now h) out.new }
 {
     let nodes = histories.nodes.as_slice();
     for i in 0..nodes.len() {

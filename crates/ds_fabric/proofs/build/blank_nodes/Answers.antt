@@ -2,7 +2,7 @@ use Rattle.std.proofs.Common.{◌≡◌, ◌<◌, ◌≤◌, ◌+◌, ◌∷◌,
 use Rattle.std.proofs.Common.{length-append}
 use Rattle.ds_rule.specs.Run.{Run}
 use Rattle.ds_rule.proofs.GetElemLemmas.{each_snoc, at_below}
-use Rattle.ds_fabric.specs.Begun.{first_of}
+use Rattle.ds_fabric.specs.Begun.{first_word_of}
 use Rattle.ds_fabric.specs.Showing.{IsBlank}
 use Rattle.ds_fabric.specs.declared.history.History.{History}
 use Rattle.ds_fabric.proofs.FirstPass.{AreLaidOut, first_small, first_next, first_up, side_by_side}
@@ -43,7 +43,7 @@ loop-node-preserved g c = let run : Run = c.args.run.now in let n : ℕ = c.loop
       c.nodes-node-end.ensures,
     ) in
     let next = first_next run n in
-    let ends : first_of run n + c.stride_of-stride.result ≤ c.args.step = omega (
+    let ends : first_word_of run n + c.stride_of-stride.result ≤ c.args.step = omega (
       arith,
       c.requires.step,
       c.stride_of-stride.ensures,
@@ -60,7 +60,7 @@ loop-node-preserved g c = let run : Run = c.args.run.now in let n : ℕ = c.loop
       subst (AreLaidOut run (n + 1) c.args.step) (sym c.in_ok-push.ensures.items) (record {
         long = omega (arith, length-append c.loop-node.nodes.items (h ∷ []), out.long);
         each = each_snoc c.loop-node.nodes.items h n
-            (λ i x. IsBlank run i c.args.step x × (x.first ≡ first_of run i)) out.long (
+            (λ i x. IsBlank run i c.args.step x × (x.first ≡ first_word_of run i)) out.long (
               record {
                 node = refl;
                 fired = refl;

@@ -1,6 +1,6 @@
 use Rattle.std.proofs.Common.{◌+◌, ◌∙◌, ap, arith, refl}
 use Rattle.ds_rule.specs.Run.{Run}
-use Rattle.ds_fabric.specs.Begun.{first_of}
+use Rattle.ds_fabric.specs.Begun.{first_word_of}
 use Rattle.ds_fabric.proofs.FirstPass.{first_small, first_next}
 use Rattle.ds_fabric.proofs.build.step_of.Goals as goal
 
@@ -30,7 +30,7 @@ loop-node-preserved g c = omega (
 )
 
 pub returns : goal.returns
-returns g c = c.loop-node.invariant ∙ ap (first_of c.args.run.now) (omega (
+returns g c = c.loop-node.invariant ∙ ap (first_word_of c.args.run.now) (omega (
   arith,
   c.loop-node-test.false,
   c.loop-node.auto.node-end,

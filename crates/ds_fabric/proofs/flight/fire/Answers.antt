@@ -2,7 +2,7 @@ use Rattle.std.proofs.Common.{◌≡◌, ◌∙◌, ◌++◌, ◌∷◌, [], ℕ
 use Rattle.ds_rule.specs.Run.{Run}
 use Rattle.ds_rule.specs.Plays.{Sat, after_depart, after_draw, after_publish}
 use Rattle.ds_rule.proofs.GetElemLemmas.{at_below, at_get, same_at}
-use Rattle.ds_fabric.specs.Armed.{IsArmed}
+use Rattle.ds_fabric.specs.Noted.{IsArmed}
 use Rattle.ds_fabric.specs.HistoryList.{new_row}
 use Rattle.ds_fabric.specs.Noted.{HasTold}
 use Rattle.ds_fabric.specs.declared.history.History.{History}

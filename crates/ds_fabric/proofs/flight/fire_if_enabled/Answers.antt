@@ -7,7 +7,7 @@ use Rattle.ds_rule.specs.Plays.{Sat}
 use Rattle.ds_rule.specs.declared.view.View.{View}
 use Rattle.ds_rule.proofs.EventLaws.{events-is}
 use Rattle.ds_rule.proofs.GetElemLemmas.{at_below, at_get, same_at}
-use Rattle.ds_fabric.specs.Armed.{IsArmed}
+use Rattle.ds_fabric.specs.Noted.{IsArmed}
 use Rattle.ds_fabric.specs.Indexed.{IsHistoryAt}
 use Rattle.ds_fabric.specs.Looks.{LooksOn, IsSeenLacking}
 use Rattle.ds_fabric.specs.Noted.{HasFired}

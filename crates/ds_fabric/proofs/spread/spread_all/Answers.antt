@@ -5,7 +5,7 @@ use native.Mathlib.Decide.{ℕ_discrete}
 use lib.ListN.{get_elem?}
 use Rattle.atomic_table.proofs.Lists.{at_index}
 use Rattle.ds_rule.proofs.GetElemLemmas.{at_below, same_at, has_below}
-use Rattle.ds_fabric.specs.HistoryList.{words_of}
+use Rattle.ds_fabric.specs.HistoryList.{list_of_words}
 use Rattle.ds_fabric.specs.Showing.{Showing, IsRecord}
 use Rattle.ds_fabric.specs.Spread.{CanSpread, HasSpread, IsLeftOver}
 use Rattle.ds_fabric.specs.declared.histories.Histories.{Histories}
@@ -21,11 +21,11 @@ at_items ns items i h e below is =
 
 -- the events of its node can be put, out of the list of its words
 can : (p : Showing) (s : Histories) (design_nodes many long i : ℕ) (h : History) (words : List ℕ)
-    → IsRecord p s design_nodes many → get_elem? s.nodes.items i ≡ some h → words ≡ words_of s h
+    → IsRecord p s design_nodes many → get_elem? s.nodes.items i ≡ some h → words ≡ list_of_words s h
     → long ≡ many → CanSpread design_nodes long p.view.run h words
 can p s design_nodes many long i h words q at is same =
     subst (λ (ws : List ℕ). CanSpread design_nodes long p.view.run h ws) (sym is)
-    (subst (λ (x : ℕ). CanSpread design_nodes x p.view.run h (words_of s h)) (sym same)
+    (subst (λ (x : ℕ). CanSpread design_nodes x p.view.run h (list_of_words s h)) (sym same)
     (can_spread p s design_nodes many q i h at))
 
 pub spread-requires-clause-few : goal.spread-requires-clause-few
@@ -63,7 +63,7 @@ loop-i-preserved c = let s : Histories = c.args.histories.now in
     let n : ℕ = length c.args.out.now in record {
       long = c.spread.ensures.long ∙ inv.long;
       spread = λ p q j g below at'. dite (ℕ_discrete j i)
-          (λ e. subst (λ (x : History). HasSpread p.view.run x (words_of s x) c.spread.new.out)
+          (λ e. subst (λ (x : History). HasSpread p.view.run x (list_of_words s x) c.spread.new.out)
           (same_at s.nodes.items i h g at
           (subst (λ (x : ℕ). get_elem? s.nodes.items x ≡ some g) e at'))
           (subst (λ (xs : List ℕ). HasSpread p.view.run h xs c.spread.new.out) c.words.ensures

@@ -5,7 +5,7 @@ use Rattle.ds_rule.specs.Rule.{first_view}
 use Rattle.ds_rule.specs.Sound.{IsSound}
 use Rattle.ds_rule.specs.Plays.{Sat}
 use Rattle.ds_rule.proofs.GetElemLemmas.{at_below}
-use Rattle.ds_fabric.specs.Begun.{AreBegun, first_of}
+use Rattle.ds_fabric.specs.Begun.{AreUnfired, first_word_of}
 use Rattle.ds_fabric.specs.Flight.{HasRoomFor}
 use Rattle.ds_fabric.specs.Indexed.{IsIndexed}
 use Rattle.ds_fabric.specs.Showing.{IsPass}
@@ -16,12 +16,12 @@ use Rattle.ds_fabric.proofs.fabric.Fabric.build.Goals as goal
 
 -- the pass of all nodes
 begun : (run : Run) (me : Sat) (room : ℕ) (s : Histories) → IsSound run
-    → me ≡ (first_view run, []) → AreBegun run s → room ≡ run.nodes → IsPass me room s
+    → me ≡ (first_view run, []) → AreUnfired run s → room ≡ run.nodes → IsPass me room s
 begun run me room s sound is b room-is = let blank = b.blank in
     let runs : run ≡ me.0.run = ap (λ (m : Sat). m.0.run) (sym is) in record {
       keeps = first_keeps run me s sound is b;
       indexed = subst (λ (r : Run). IsIndexed r.nodes room (length s.nodes.items) s.nodes.items
-          s.places.items) runs (all_placed run room (first_of run run.nodes) s.nodes.items
+          s.places.items) runs (all_placed run room (first_word_of run run.nodes) s.nodes.items
           s.places.items (omega (arith, sound.few)) room-is blank b.places_long b.places);
       roomy = omega (arith, b.nodes_room);
       few = omega (arith, sound.few);

@@ -7,7 +7,7 @@ use Rattle.ds_rule.specs.Rows.{IsStarts}
 use Rattle.ds_rule.proofs.PlaceLaws.{size-start}
 use Rattle.ds_rule.proofs.RuleAtStart.{starts}
 use Rattle.ds_fabric.specs.Laid.{LaidBelow}
-use Rattle.ds_fabric.specs.Ranged.{AreReads}
+use Rattle.ds_fabric.specs.Ranged.{AreReadWords}
 use Rattle.ds_fabric.proofs.fabric.Fabric.stand.Goals as goal
 
 -- the words that are laid meet the rule
@@ -35,7 +35,7 @@ invariant_of-fabric g c =
         no_slot = t.1;
         started = subst (IsStarts run) (sym c.in_ok-index.ensures.starts) (b.starts_long, b.started);
         ranged = c.in_ok-index.ensures.firsts;
-        reads = subst (AreReads run) (sym c.in_ok-index.ensures.reads) c.requires.reads;
+        reads = subst (AreReadWords run) (sym c.in_ok-index.ensures.reads) c.requires.reads;
       },
       c.requires.openings,
       c.in_ok-incoming.ensures,

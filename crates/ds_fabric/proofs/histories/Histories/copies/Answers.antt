@@ -2,7 +2,7 @@ use Rattle.std.proofs.Common.{◌∙◌, ℕ, List, [], ◌∷◌, length, ap, s
 use Rattle.std.proofs.Common.{vec_capacity, length-append}
 use Rattle.atomic_table.proofs.Lists.{at_index}
 use Rattle.ds_fabric.specs.Separated.{IsOwn}
-use Rattle.ds_fabric.proofs.Copied.{copied_more}
+use Rattle.ds_fabric.proofs.Dealing.{copied_more}
 use Rattle.ds_fabric.specs.declared.history.History.{History}
 use Rattle.ds_fabric.proofs.histories.Histories.copies.Goals as goal
 

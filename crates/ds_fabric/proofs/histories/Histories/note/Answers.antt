@@ -4,7 +4,7 @@ use mathlib.Core.Option.{some}
 use lib.ListN.{get_elem?}
 use Rattle.ds_rule.specs.Run.{Run}
 use Rattle.ds_rule.proofs.GetElemLemmas.{at_get}
-use Rattle.ds_fabric.specs.HistoryList.{IsWritten, start_of, end_of, offset_of, turn_of}
+use Rattle.ds_fabric.specs.HistoryList.{IsWritten, start_of_words, end_of_turn, offset_of, next_turn_of}
 use Rattle.ds_fabric.specs.Noted.{HasRoomToNote, IsNextRole, HasSpan}
 use Rattle.ds_fabric.specs.declared.history.History.{History}
 use Rattle.ds_fabric.proofs.WordsInLists.{ends_turn}
@@ -18,8 +18,8 @@ lent nodes at g h is there = sym (at_get nodes at g h there) ∙ sym is
 
 -- what is known of the span that was worked out
 record Spanned (run : Run) (start end told room : ℕ) (h : History) : Type 0 where
-  start_is : start ≡ start_of run h
-  end_is : end ≡ end_of run h
+  start_is : start ≡ start_of_words run h
+  end_is : end ≡ end_of_turn run h
   inside : start + told ≤ end
   fits : end ≤ room
 
@@ -51,11 +51,11 @@ spanned c run r = let h : History = c.index_mut-history.result.now in
         ap (λ (x : History). x.first + x.stride) same,
         ap (λ (x : History). x.step) same,
         r.span.inside,
-        ends_turn (turn_of run h) h.step,
+        ends_turn (next_turn_of run h) h.step,
       );
       fits = subst (λ (x : History). c.span-start.result.1 ≤ cond c.args.self.now.apart
           (vec_capacity x.own) (vec_capacity c.args.self.now.together)) same
-          (omega (arith, s.1, ap (end_of run) same, r.room));
+          (omega (arith, s.1, ap (end_of_turn run) same, r.room));
     }
 
 pub span-start-requires : goal.span-start-requires
@@ -96,11 +96,11 @@ write_at-requires-else-self-clause-room c = let (run, r) = c.requires.room in
 
 -- the words that were told, at the places of the span
 written_span : (run : Run) (old new told words : List ℕ) (start end : ℕ) (h : History)
-    → start ≡ start_of run h → end ≡ end_of run h → told ≡ words
-    → IsWritten old new start end told → IsWritten old new (start_of run h) (end_of run h) words
+    → start ≡ start_of_words run h → end ≡ end_of_turn run h → told ≡ words
+    → IsWritten old new start end told → IsWritten old new (start_of_words run h) (end_of_turn run h) words
 written_span run old new told words start end h s e t w =
-    subst (IsWritten old new (start_of run h) (end_of run h)) t
-    (subst (λ (x : ℕ). IsWritten old new x (end_of run h) told) s
+    subst (IsWritten old new (start_of_words run h) (end_of_turn run h)) t
+    (subst (λ (x : ℕ). IsWritten old new x (end_of_turn run h) told) s
     (subst (λ (x : ℕ). IsWritten old new start x told) e w))
 
 pub returns-then-self : goal.returns-then-self
@@ -137,7 +137,7 @@ returns-then-self c run r = let h : History = c.index_mut-history.result.now in
             ≡ cond b (vec_capacity h.own) (vec_capacity all)) (sym c.if-self.true)
             c.write_at.ensures.room;
         written = subst (λ (b : Bool). IsWritten (cond b h.own.items all.items)
-            (cond b own.items all.items) (start_of run h) (end_of run h)
+            (cond b own.items all.items) (start_of_words run h) (end_of_turn run h)
             (c.args.self.now.buffers.told.items ++ c.args.ticket ∷ [])) (sym c.if-self.true)
             (written_span run h.own.items own.items c.as_slice-told.result.now
             (c.args.self.now.buffers.told.items ++ c.args.ticket ∷ []) c.span-start.result.0
@@ -179,7 +179,7 @@ returns-else-self c run r = let h : History = c.index_mut-history.result.now in
             ≡ cond b (vec_capacity h.own) (vec_capacity old)) (sym c.if-self.false)
             c.write_at-else-self.ensures.room;
         written = subst (λ (b : Bool). IsWritten (cond b h.own.items old.items)
-            (cond b h.own.items all.items) (start_of run h) (end_of run h)
+            (cond b h.own.items all.items) (start_of_words run h) (end_of_turn run h)
             (c.args.self.now.buffers.told.items ++ c.args.ticket ∷ [])) (sym c.if-self.false)
             (written_span run old.items all.items c.as_slice-told.result.now
             (c.args.self.now.buffers.told.items ++ c.args.ticket ∷ []) c.span-start.result.0

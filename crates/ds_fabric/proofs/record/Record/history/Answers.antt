@@ -3,7 +3,7 @@ use Rattle.ds_rule.specs.Run.{Run}
 use Rattle.ds_rule.specs.Sound.{IsSound}
 use Rattle.ds_rule.specs.Rule.{tickets}
 use Rattle.ds_rule.specs.declared.view.View.{View}
-use Rattle.ds_fabric.specs.HistoryList.{room_of}
+use Rattle.ds_fabric.specs.HistoryList.{list_room}
 use Rattle.ds_fabric.specs.Showing.{Recorder, IsTold}
 use Rattle.ds_fabric.specs.declared.histories.Histories.{Histories}
 use Rattle.ds_fabric.specs.declared.history.History.{History}
@@ -51,7 +51,7 @@ returns c = let q = c.self.invariant in let v : View = c.self.inside.shown.value
     subst (λ (x : Recorder). IsTold x.shown.view l h c.words.result.now) c.self.view_is
     (subst (λ (ws : List ℕ). IsTold v l h ws) (sym c.words.ensures) (record {
       node_is = f.node_is;
-      room = room_of s h;
+      room = list_room s h;
       tells = f.tells;
       counts = q.keeps.counts;
       sound = q.sound;
