@@ -12,7 +12,8 @@ use Rattle.ds_rule.specs.declared.event_role.EventRole.{EventRole}
 use Rattle.ds_fabric.specs.declared.history.History.{History}
 use Rattle.ds_fabric.specs.declared.histories.Histories.{Histories}
 use Rattle.ds_fabric.specs.Flight.{HasRoomToFire}
-use Rattle.ds_fabric.specs.HistoryList.{IsWritten, list_of_words, list_room, next_turn_of, offset_of}
+use Rattle.ds_fabric.specs.HistoryList.{IsWritten, list_of_words, list_room, next_turn_of}
+use Rattle.ds_fabric.specs.HistoryList.{offset_of}
 use Rattle.ds_fabric.specs.HistoryList.{start_of_words, end_of_turn, new_row}
 
 -- the role is that of the next event of the history's node
@@ -39,14 +40,16 @@ pub record HasRoomToNote (run : Run) (s : Histories) (at : ℕ) (role : EventRol
   pub buffer : vec_len s.buffers.told < vec_capacity s.buffers.told
 
 -- the history has one firing more, and the words that its event told stand in its list
-pub record HasNotedWords (run : Run) (s t : Histories) (g h : History) (told : List ℕ) : Type 0 where
+pub record HasNotedWords (run : Run) (s t : Histories) (g h : History) (told : List ℕ)
+    : Type 0 where
   pub node : h.node ≡ g.node
   pub fired : h.fired ≡ g.fired + 1
   pub stride : h.stride ≡ g.stride
   pub first : h.first ≡ g.first
   pub step : h.step ≡ g.step
   pub room : list_room t h ≡ list_room s g
-  pub written : IsWritten (list_of_words s g) (list_of_words t h) (start_of_words run g) (end_of_turn run g) told
+  pub written : IsWritten (list_of_words s g) (list_of_words t h) (start_of_words run g)
+      (end_of_turn run g) told
 
 -- of the histories one has noted its next event; the room for a firing is as it was
 pub record HasTold (run : Run) (s t : Histories) (at : ℕ) (told : List ℕ) : Type 0 where

@@ -1,6 +1,6 @@
 -- Histories that get lists of their own.
-use Rattle.std.specs.Prelude.{◌≡◌, ℕ, ◌+◌, ◌*◌, ◌<◌, ◌≤◌, List, [], ◌++◌, true, zero, suc, take, drop}
-use Rattle.std.specs.Prelude.{false, length, vec_capacity}
+use Rattle.std.specs.Prelude.{◌≡◌, ℕ, ◌+◌, ◌*◌, ◌<◌, ◌≤◌, List, [], ◌++◌, true, zero, suc, take}
+use Rattle.std.specs.Prelude.{drop, false, length, vec_capacity}
 use mathlib.Core.Option.{some}
 use lib.ListN.{get_elem?}
 use Rattle.ds_fabric.specs.declared.history.History.{History}

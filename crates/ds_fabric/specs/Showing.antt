@@ -13,7 +13,8 @@ use Rattle.ds_rule.specs.Rule.{holds, tickets, seen, first_view}
 use Rattle.ds_rule.specs.Plays.{with_cut, without_cut, only_cut}
 use Rattle.ds_rule.specs.declared.view.View.{View}
 use Rattle.ds_fabric.specs.Base.{Base}
-use Rattle.ds_fabric.specs.HistoryList.{stride_of, turns_told, StandByTurn, list_of_words, list_room}
+use Rattle.ds_fabric.specs.HistoryList.{stride_of, turns_told, StandByTurn, list_of_words}
+use Rattle.ds_fabric.specs.HistoryList.{list_room}
 use Rattle.ds_fabric.specs.Flight.{HasRoomFor}
 use Rattle.ds_fabric.specs.Indexed.{IsOneEach, IsIndexed}
 use Rattle.ds_fabric.specs.declared.history.History.{History}

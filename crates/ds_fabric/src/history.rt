@@ -2,7 +2,8 @@
 ghost use Rattle.std.specs.Prelude.{◌≡◌, ◌<◌, ◌+◌, ◌*◌, ℕ, true, length};
 ghost use Rattle.ds_rule.specs.Run.{Run, turns, opens};
 ghost use Rattle.ds_rule.specs.Event.{is_opening};
-ghost use Rattle.ds_fabric.specs.HistoryList.{StandsIn, ticket_in, ticket_place, start_of_words, end_of_turn};
+ghost use Rattle.ds_fabric.specs.HistoryList.{StandsIn, ticket_in, ticket_place, start_of_words};
+ghost use Rattle.ds_fabric.specs.HistoryList.{end_of_turn};
 ghost use Rattle.ds_fabric.specs.Noted.{IsNextRole, HasSpan};
 
 use ds_rule::EventRole;
