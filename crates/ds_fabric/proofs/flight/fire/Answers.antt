@@ -19,8 +19,9 @@ read g c = let (h, armed) = c.requires.armed in
 
 ready : (g : Given.Over) (c : After-index-history g) → IsArmed c.args.context.now.run.now
     c.args.seat.now.me.0 c.args.histories.now c.args.at c.index-history.result.now
-ready g c = subst (λ (x : History). IsArmed c.args.context.now.run.now c.args.seat.now.me.0
-    c.args.histories.now c.args.at x) (read g c) c.requires.armed.1
+ready g c = let (_, armed) = c.requires.armed in
+    subst (λ (x : History). IsArmed c.args.context.now.run.now c.args.seat.now.me.0
+    c.args.histories.now c.args.at x) (read g c) armed
 
 pub index-history-requires : goal.index-history-requires
 index-history-requires g c = let (h, armed) = c.requires.armed in
