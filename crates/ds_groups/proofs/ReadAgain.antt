@@ -1,18 +1,15 @@
 -- The text that shows clusters is read as groups that are these clusters.
-use Rattle.std.proofs.Common.{◌≡◌, ◌≢◌, ◌∙◌, inl, inr, ℕ, zero, suc, ◌+◌, ◌-◌, ◌<◌, ◌≤◌, ◌^◌, Bool, true, false, replicate, List, [], ◌∷◌, ◌++◌, length, get_or, take, drop, map, refl, sym, ap, subst, arith, Result, Ok, append_assoc, length-append}
+use Rattle.std.proofs.Common.{◌≡◌, ◌≢◌, ◌∙◌, inl, inr, ℕ, zero, suc, ◌+◌, ◌-◌, ◌<◌, ◌≤◌, ◌^◌, true, false, replicate, List, [], ◌∷◌, ◌++◌, length, get_or, take, drop, map, refl, sym, ap, subst, arith, Result, Ok, append_assoc, length-append}
 use Rattle.std.specs.Prelude.{AllPairs, Contains, codes, decimal, if◌then◌else◌}
 use Rattle.std.specs.List.{AllByRecursion, list_any, position_or_len, slice_split, suffix_len}
 use Rattle.std.specs.Str.{bytes_eq}
-use Rattle.std.specs.Str.Parse.{AllDigits}
 use Rattle.std.proofs.Math.Seq.{drop-append_seam, get_or-append_seam, take-append_seam, take-length}
-use Rattle.std.proofs.lemmas.Bool.{cases_eq, cases_lt, and_from, and_parts, cond-true, cond-false, eq-eqb, false_from_ne_true, ne_eqb}
-use Rattle.std.proofs.lemmas.Fmt.{digits_decimal}
+use Rattle.std.proofs.lemmas.Bool.{cases_eq, cases_lt, and_from, and_parts, cond-true, cond-false, eq-eqb, false_from_ne_true}
 use Rattle.std.proofs.lemmas.List.{get_or_default, get_or_past, length-map}
 use Rattle.std.proofs.lemmas.List.Folds.{list_any_at}
 use Rattle.std.proofs.lemmas.List.FromFn.{get_or-map-range_with_len}
 use Rattle.std.proofs.lemmas.List.Sums.{suffix_len_is, suffix_len-take_yes}
 use Rattle.std.proofs.lemmas.Slice.Eq.{bytes_eq-Decides}
-use Rattle.std.proofs.lemmas.Str.Parse.{digit_at, numerals_by_value, tells_digits}
 use Rattle.ds_base.proofs.ListLemmas.{Contains-head, Contains-split, Contains-tail, cases_Contains, lists_same}
 use Rattle.ds_base.proofs.AppendedPairs.{get_or-left}
 use Rattle.ds_base.proofs.RisingNumbers.{rising_same}

@@ -1,22 +1,17 @@
 -- The text of a legal list is read and fired to the list's end.
-use Rattle.std.proofs.Common.{◌≡◌, ◌≢◌, ◌∙◌, ◌==◌, ℕ, suc, zero, ◌+◌, ◌-◌, ◌<◌, ◌≤◌, ◌^◌, Bool, true, false, List, [], ◌∷◌, ◌++◌, length, drop, get_or, map, Ok, inl, inr, refl, arith, ap, append_assoc, sym, subst}
+use Rattle.std.proofs.Common.{◌≡◌, ◌≢◌, ◌∙◌, ◌==◌, ℕ, suc, zero, ◌+◌, ◌<◌, ◌≤◌, ◌^◌, true, false, List, [], ◌∷◌, ◌++◌, length, drop, get_or, map, Ok, inl, inr, refl, arith, ap, append_assoc, sym, subst}
 use Rattle.std.specs.Prelude.{nat_lt, codes, decimal, All}
-use Rattle.std.specs.List.{AllByRecursion, flat_map, list_any, position_or_len, range_with_len, suffix_len}
+use Rattle.std.specs.List.{AllByRecursion, flat_map, position_or_len, range_with_len}
 use Rattle.std.specs.Str.{bytes_eq}
-use Rattle.std.proofs.lemmas.Bool.{cases_Bool, false≢true, lt-ltb, le-ltb}
+use Rattle.std.proofs.lemmas.Bool.{cases_Bool, lt-ltb, le-ltb}
 use Rattle.std.proofs.lemmas.Bool.Decides.{eqb_tells}
 use Rattle.std.proofs.lemmas.Fmt.{decimal_is_IsNumeral, length-decimal-le}
-use Rattle.std.proofs.lemmas.List.{get_or-append-add, get_or-map, get_or_default, length-append, length-map}
-use Rattle.std.proofs.lemmas.List.Folds.{list_any_none}
-use Rattle.std.proofs.lemmas.List.Sums.{suffix_len_is}
 use Rattle.std.proofs.lemmas.Slice.Eq.{bytes_eq-Decides}
-use Rattle.std.proofs.lemmas.Str.Parse.{digit_at}
 use Rattle.ds_base.specs.Values.{Row}
-use Rattle.ds_base.specs.declared.value.Value.{Value}
-use Rattle.ds_base.specs.declared.value.Value.TheVariants.{Zero, One, Unknown}
+use Rattle.ds_base.specs.declared.value.Value.TheVariants.{Zero}
 use Rattle.ds_design.specs.Circuit.{Circuit}
-use Rattle.ds_design.specs.Trace.{IsTrace, end_line, trace_line, value_text, values_text}
-use Rattle.ds_lines.specs.Line.{Line, is_blank, is_end, is_hash, is_newline, is_some, lines_of}
+use Rattle.ds_design.specs.Trace.{IsTrace, end_line, trace_line, values_text}
+use Rattle.ds_lines.specs.Line.{Line, lines_of}
 use Rattle.ds_lines.specs.Print.{IsPlain, IsWord, line_text, numbered_lines, text_of}
 use Rattle.ds_lines.proofs.PrintedLines.{lines_of-text_of}
 use Rattle.ds_lines.proofs.Uncut.{IsClean, clean_line, clean_number, clean_uncut, clean_word, plain_line}
