@@ -1,9 +1,9 @@
 -- The lines of a graph whose words have bytes that are never cut.
-use Rattle.std.proofs.Common.{◌≡◌, ◌∙◌, ◌==◌, ◌||◌, ℕ, zero, suc, ◌<◌, ◌≤◌, ◌^◌, Bool, true, false, List, [], ◌∷◌, ◌++◌, length, take, drop, Option, inl, inr, refl, arith, sym, subst, ltb}
+use Rattle.std.proofs.Common.{◌==◌, ℕ, zero, suc, ◌<◌, ◌≤◌, ◌^◌, List, [], ◌∷◌, ◌++◌, length, take, drop, Option, inl, inr, refl, arith, sym, subst, ltb}
 use Rattle.std.specs.Prelude.{All, codes, decimal}
-use Rattle.std.specs.List.{AllByRecursion, list_any}
+use Rattle.std.specs.List.{AllByRecursion}
 use Rattle.std.specs.Option.{option_map_or}
-use Rattle.std.proofs.lemmas.Bool.{cases_Bool, false≢true}
+use Rattle.std.proofs.lemmas.Bool.{cases_Bool}
 use Rattle.std.proofs.lemmas.Option.{slice_get-get_or}
 use Rattle.ds_lines.specs.Print.{HasNo, IsPlain, IsWord}
 use Rattle.ds_lines.proofs.Lacks.{without_both}

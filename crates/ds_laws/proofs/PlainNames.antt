@@ -1,6 +1,6 @@
 -- The registers of a netlist that a file stands for have plain names, and each that is there has a
 -- word as its name.
-use Rattle.std.proofs.Common.{◌≡◌, ◌≢◌, ◌∙◌, ◌⊎◌, ◌==◌, ◌||◌, ℕ, zero, suc, ◌+◌, ◌-◌, ◌<◌, ◌≤◌, ◌^◌, Bool, true, false, List, [], ◌∷◌, ◌++◌, length, take, drop, map, Option, None, Some, Result, Ok, Err, refl, arith, sym, subst, inl, inr, if◌then◌else◌}
+use Rattle.std.proofs.Common.{◌≡◌, ◌≢◌, ◌∙◌, ◌⊎◌, ◌==◌, ◌||◌, ℕ, zero, suc, ◌+◌, ◌-◌, ◌<◌, ◌≤◌, Bool, true, false, List, [], ◌∷◌, ◌++◌, length, take, drop, map, Option, None, Some, Result, Ok, Err, refl, arith, sym, subst, inl, inr, if◌then◌else◌}
 use Rattle.std.specs.Prelude.{IfOk, IfSome, codes, decimal, nat_lt, slice_index_or}
 use Rattle.std.specs.List.{AllByRecursion, list_any, position_or_len}
 use Rattle.std.specs.Option.{option_map}
@@ -8,13 +8,12 @@ use Rattle.std.specs.Str.{bytes_eq}
 use Rattle.std.proofs.lemmas.Bool.{cases_Bool, eqb-true, false≢true, ltb-false}
 use Rattle.std.proofs.lemmas.Bool.Decides.{Decides-ltb}
 use Rattle.std.proofs.lemmas.List.{get_or-map}
-use Rattle.std.proofs.lemmas.List.Folds.{list_any-append}
 use Rattle.ds_base.specs.Limit.{most_of}
 use Rattle.ds_base.specs.declared.number.Limit.{Limit}
 use Rattle.ds_base.specs.declared.number.Limit.TheVariants.{Copies}
 use Rattle.ds_outside.specs.Held.{Held, untold, absent, bytes}
 use Rattle.ds_lines.specs.First.{unless_fault}
-use Rattle.ds_lines.specs.Line.{Line, is_some}
+use Rattle.ds_lines.specs.Line.{Line}
 use Rattle.ds_lines.specs.Print.{is_apart, IsWord}
 use Rattle.ds_lines.proofs.Lacks.{lacks_both, lacks_drop, number_without, some_bytes, without_both}
 use Rattle.ds_lines.specs.Words.{word_at}

@@ -1,15 +1,10 @@
 -- The text of a state is whole lines, none of which is the one word `firings`.
-use Rattle.std.proofs.Common.{◌≡◌, ◌≢◌, ◌∙◌, ℕ, zero, suc, ◌+◌, ◌-◌, ◌*◌, ◌<◌, ◌^◌, Bool, true, false, List, [], ◌∷◌, ◌++◌, length, get_or, map, inl, inr, refl, arith, ap, append_assoc, sym, subst}
+use Rattle.std.proofs.Common.{◌≡◌, ◌≢◌, ◌∙◌, ℕ, zero, suc, ◌+◌, ◌*◌, ◌<◌, ◌^◌, true, List, [], ◌∷◌, ◌++◌, length, refl, arith, ap, append_assoc, sym}
 use Rattle.std.specs.Prelude.{codes, decimal}
-use Rattle.std.specs.List.{AllByRecursion, flat_map, list_any, range_with_len, suffix_len}
-use Rattle.std.proofs.lemmas.Bool.{cases_Bool, false≢true}
-use Rattle.std.proofs.lemmas.List.{get_or-append-add, get_or_default, length-append}
-use Rattle.std.proofs.lemmas.List.Folds.{list_any-append, list_any_at, list_any_none}
-use Rattle.std.proofs.lemmas.List.Sums.{suffix_len_is}
+use Rattle.std.specs.List.{AllByRecursion, flat_map, range_with_len}
 use Rattle.ds_base.specs.Values.{Row}
-use Rattle.ds_base.specs.declared.value.Value.TheVariants.{Zero, One, Unknown}
-use Rattle.ds_design.specs.Trace.{value_text, values_text}
-use Rattle.ds_lines.specs.Line.{is_blank, is_end, is_hash, is_newline, is_some}
+use Rattle.ds_design.specs.Trace.{values_text}
+use Rattle.ds_lines.specs.Line.{is_some}
 use Rattle.ds_lines.specs.Print.{is_apart, IsPlain, IsWord, line_text, text_of}
 use Rattle.ds_lines.proofs.Lacks.{lacks_both}
 use Rattle.ds_lines.proofs.Uncut.{IsClean, clean_line, clean_number, clean_uncut, clean_word, plain_line}

@@ -1,11 +1,10 @@
 -- Lines of words of which the last one does not end in a `\`.
-use Rattle.std.proofs.Common.{◌≡◌, ◌∙◌, ◌||◌, ℕ, ◌-◌, ◌<◌, Bool, true, false, List, [], ◌∷◌, ◌++◌, length, get_or, map, inl, inr, refl, arith, ap, sym}
+use Rattle.std.proofs.Common.{◌≡◌, ℕ, ◌<◌, true, false, List, [], ◌∷◌, ◌++◌, length, map, inl, inr, refl, arith, ap}
 use Rattle.std.specs.Prelude.{All}
-use Rattle.std.specs.List.{AllByRecursion, list_any, suffix_len}
-use Rattle.std.proofs.lemmas.Bool.{cases_Bool, eqb-true, false≢true}
+use Rattle.std.specs.List.{AllByRecursion}
+use Rattle.std.proofs.lemmas.Bool.{cases_Bool, eqb-true}
 use Rattle.std.proofs.lemmas.List.Elements.{recursion_from_All}
-use Rattle.std.proofs.lemmas.List.Sums.{suffix_len_is}
-use Rattle.ds_lines.specs.Line.{is_backslash, is_blank, is_end, is_some}
+use Rattle.ds_lines.specs.Line.{is_backslash, is_blank}
 use Rattle.ds_lines.specs.Print.{is_apart, IsPlain, IsWord}
 use Rattle.ds_lines.proofs.Lacks.{lacks_parts, no_blank}
 use Rattle.ds_lines.proofs.Uncut.{EndsUncut, IsUncut, both_false, plain_line}

@@ -1,6 +1,6 @@
 -- The lines of a text have words: none is empty, and none has a blank, an end of a line or a `#`.
-use Rattle.std.proofs.Common.{◌≡◌, ℕ, zero, suc, ◌+◌, Bool, true, false, List, [], ◌∷◌, ◌++◌, take, refl, arith, inl, inr, ◌||◌}
-use Rattle.std.specs.List.{slice_split, onto_first, list_any, filter, before_first, position_or_len, AllByRecursion}
+use Rattle.std.proofs.Common.{◌≡◌, ℕ, suc, ◌+◌, Bool, false, List, [], ◌∷◌, ◌++◌, refl, arith, inl, inr, ◌||◌}
+use Rattle.std.specs.List.{slice_split, onto_first, filter, before_first, position_or_len, AllByRecursion}
 use Rattle.std.proofs.lemmas.Bool.{cases_Bool}
 use Rattle.ds_lines.specs.Line.{Line, line_of, lines_from, lines_of, uncommented, trimmed, kept_len, joins, words_in, is_blank, is_some, is_newline, is_hash}
 use Rattle.ds_lines.specs.Print.{HasNo, IsWord}

@@ -6,11 +6,10 @@ use Rattle.std.specs.Str.{bytes_eq}
 use Rattle.std.proofs.lemmas.Bool.{false≢true}
 use Rattle.std.proofs.lemmas.List.{append-nil, length-append}
 use Rattle.std.proofs.lemmas.List.Elements.{All-cons}
-use Rattle.std.proofs.lemmas.List.Folds.{list_any-append}
 use Rattle.std.proofs.Math.Seq.{get_or-append_seam}
 use Rattle.ds_lines.specs.First.{unless_fault, behind_line}
 use Rattle.ds_lines.specs.Words.{word_at}
-use Rattle.ds_lines.specs.Line.{Line, is_blank, is_hash, is_newline, is_some}
+use Rattle.ds_lines.specs.Line.{Line}
 use Rattle.ds_lines.specs.Print.{is_apart, IsWord}
 use Rattle.ds_lines.proofs.Lacks.{without_both}
 use Rattle.ds_marked.specs.Graph.{Graph}
