@@ -1,18 +1,15 @@
 -- The text that shows clusters is read as groups that are these clusters.
-use Rattle.std.proofs.Common.{◌≡◌, ◌≢◌, ◌∙◌, inl, inr, ℕ, zero, suc, ◌+◌, ◌-◌, ◌<◌, ◌≤◌, ◌^◌, Bool, true, false, replicate, List, [], ◌∷◌, ◌++◌, length, get_or, take, drop, map, refl, sym, ap, subst, arith, Result, Ok, append_assoc, length-append}
+use Rattle.std.proofs.Common.{◌≡◌, ◌≢◌, ◌∙◌, inl, inr, ℕ, zero, suc, ◌+◌, ◌-◌, ◌<◌, ◌≤◌, ◌^◌, true, false, replicate, List, [], ◌∷◌, ◌++◌, length, get_or, take, drop, map, refl, sym, ap, subst, arith, Result, Ok, append_assoc, length-append}
 use Rattle.std.specs.Prelude.{AllPairs, Contains, codes, decimal, if◌then◌else◌}
 use Rattle.std.specs.List.{AllByRecursion, list_any, position_or_len, slice_split, suffix_len}
 use Rattle.std.specs.Str.{bytes_eq}
-use Rattle.std.specs.Str.Parse.{AllDigits}
 use Rattle.std.proofs.Math.Seq.{drop-append_seam, get_or-append_seam, take-append_seam, take-length}
-use Rattle.std.proofs.lemmas.Bool.{cases_eq, cases_lt, and_from, and_parts, cond-true, cond-false, eq-eqb, false_from_ne_true, ne_eqb}
-use Rattle.std.proofs.lemmas.Fmt.{digits_decimal}
+use Rattle.std.proofs.lemmas.Bool.{cases_eq, cases_lt, and_from, and_parts, cond-true, cond-false, eq-eqb, false_from_ne_true}
 use Rattle.std.proofs.lemmas.List.{get_or_default, get_or_past, length-map}
 use Rattle.std.proofs.lemmas.List.Folds.{list_any_at}
 use Rattle.std.proofs.lemmas.List.FromFn.{get_or-map-range_with_len}
 use Rattle.std.proofs.lemmas.List.Sums.{suffix_len_is, suffix_len-take_yes}
 use Rattle.std.proofs.lemmas.Slice.Eq.{bytes_eq-Decides}
-use Rattle.std.proofs.lemmas.Str.Parse.{digit_at, numerals_by_value, tells_digits}
 use Rattle.ds_base.proofs.ListLemmas.{Contains-head, Contains-split, Contains-tail, cases_Contains, lists_same}
 use Rattle.ds_base.proofs.AppendedPairs.{get_or-left}
 use Rattle.ds_base.proofs.RisingNumbers.{rising_same}
@@ -20,10 +17,11 @@ use Rattle.ds_design.specs.Groups.{group_at}
 use Rattle.ds_lines.specs.First.{behind_line}
 use Rattle.ds_lines.specs.Line.{Line, is_backslash, is_end, is_hash, is_joined, is_newline, joins, kept_len, lines_from, trimmed, uncommented, words_in, words_of}
 use Rattle.ds_lines.specs.Names.{has_name}
-use Rattle.ds_lines.specs.Print.{IsPlain, line_text, numbered_lines}
+use Rattle.ds_lines.specs.Print.{HasNo, IsPlain, line_text, numbered_lines}
 use Rattle.ds_lines.specs.declared.at.At.{At}
 use Rattle.ds_lines.proofs.JoinedLines.{split-append}
-use Rattle.ds_lines.proofs.PrintedLines.{any-append, hash_line_text, line_first, newline_line_text, none_here, split_plain, words_of-line_text}
+use Rattle.ds_lines.proofs.Lacks.{lacks_both, lacks_parts, number_without}
+use Rattle.ds_lines.proofs.PrintedLines.{hash_line_text, line_first, newline_line_text, split_plain, words_of-line_text}
 use Rattle.ds_groups.specs.Laws.{AreAll, ClustersAreRead}
 use Rattle.ds_groups.specs.Match.{has_form}
 use Rattle.ds_groups.specs.Read.{after_lines, after_word, after_words, behind_word, line_group, groups_by, groups_of, holder, holders_after, is_free, means, register_name, none_taken, takes}
@@ -33,27 +31,18 @@ use Rattle.ds_groups.proofs.Disjoint.{group_here, group_rises, groups_size, in_g
 use Rattle.ds_groups.proofs.Takings.{some_true}
 use Rattle.ds_groups.proofs.PatternWords.{word_ok}
 
--- digits pass no test that is for other bytes
-digits_other : (p : ℕ → Bool) → ((d : ℕ) → 48 ≤ d → p d ≡ false) → (ds : List ℕ) → AllDigits 10 ds → list_any p ds ≡ false
-digits_other p none [] all = refl
-digits_other p none (d ∷ ds) all = rw
-    ((let (low, high) = digit_at (d ∷ ds) 0 all (omega arith) in let h : p d ≡ false = none d (omega arith) in h), digits_other p none ds all.1) refl
-
-number_other : (p : ℕ → Bool) → ((d : ℕ) → 48 ≤ d → p d ≡ false) → (n : ℕ) → n < 2 ^ 64 → list_any p (decimal n) ≡ false
-number_other p none n small = digits_other p none (decimal n) (digits_decimal (numerals_by_value (AllDigits 10) tells_digits) n small)
-
-no_newline : (i : ℕ) → i < 2 ^ 64 → list_any is_newline (latches_text i) ≡ false
+-- no line ends in what stands for latches
+no_newline : (i : ℕ) → i < 2 ^ 64 → HasNo is_newline (latches_text i)
 no_newline i small =
-    let other : (d : ℕ) → 48 ≤ d → is_newline d ≡ false = (λ d low. ne_eqb d 10 (λ e. absurd (omega arith))) in
-    let number = number_other is_newline other i small in
-    any-append is_newline (codes " # M" ++ decimal i ++ codes " S") (decimal i)
-    (any-append is_newline (codes " # M" ++ decimal i) (codes " S") (any-append is_newline (codes " # M") (decimal i) refl number) refl) number
+    let number : HasNo is_newline (decimal i) = (number_without is_newline refl i small).none in
+    lacks_both is_newline (codes " # M" ++ decimal i ++ codes " S") (decimal i)
+    (lacks_both is_newline (codes " # M" ++ decimal i) (codes " S") (lacks_both is_newline (codes " # M") (decimal i) refl number) refl) number
 
 -- what stands before a comment
 before_hash : (xs more : List ℕ) → list_any is_hash xs ≡ false → uncommented (xs ++ 35 ∷ more) ≡ xs
 before_hash [] more none = refl
 before_hash (x ∷ xs) more none =
-    let (here, behind) = none_here is_hash x xs none in
+    let (here, behind) = lacks_parts is_hash x xs none in
     let e : position_or_len is_hash (x ∷ (xs ++ 35 ∷ more)) ≡ suc (position_or_len is_hash (xs ++ 35 ∷ more)) =
     rw here (let z : 1 + position_or_len is_hash (xs ++ 35 ∷ more) ≡ suc (position_or_len is_hash (xs ++ 35 ∷ more)) = omega arith in z) in
     ap (λ n. take n (x ∷ (xs ++ 35 ∷ more))) e ∙ ap (λ (ys : List ℕ). x ∷ ys) (before_hash xs more behind)
@@ -76,7 +65,7 @@ module _ (words : List (List ℕ)) (is : IsPlain words) (i : ℕ) (small : i < 2
       let e : line_text words ++ latches_text i ≡ (line_text words ++ 32 ∷ []) ++ (35 ∷ 32 ∷ 77 ∷ (decimal i ++ codes " S" ++ decimal i)) =
       sym (append_assoc (line_text words) (32 ∷ []) (35 ∷ 32 ∷ 77 ∷ (decimal i ++ codes " S" ++ decimal i))) in
       ap uncommented e ∙ before_hash (line_text words ++ 32 ∷ []) (32 ∷ 77 ∷ (decimal i ++ codes " S" ++ decimal i))
-      (any-append is_hash (line_text words) (32 ∷ []) (hash_line_text words is.each) refl)
+      (lacks_both is_hash (line_text words) (32 ∷ []) (hash_line_text words is.each) refl)
 
   kept : kept_len (line_text words ++ 32 ∷ []) ≡ length (line_text words)
   kept =
@@ -104,7 +93,7 @@ module _ (words : List (List ℕ)) (is : IsPlain words) (i : ℕ) (small : i < 2
   one_line rest = ap (slice_split is_newline) (append_assoc (line_text words ++ latches_text i) (10 ∷ []) rest)
       ∙ split-append is_newline (line_text words ++ latches_text i) 10 rest refl
       ∙ ap (λ (parts : List (List ℕ)). parts ++ slice_split is_newline rest)
-      (split_plain is_newline (line_text words ++ latches_text i) (any-append is_newline (line_text words) (latches_text i) (newline_line_text words is.each) (no_newline i small)))
+      (split_plain is_newline (line_text words ++ latches_text i) (lacks_both is_newline (line_text words) (latches_text i) (newline_line_text words is.each) (no_newline i small)))
 
 module _ (names : List (List ℕ)) where
   -- the words of the line of a cluster

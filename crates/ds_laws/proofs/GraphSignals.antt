@@ -1,11 +1,14 @@
 -- The signals of a graph that is printed: names of letters and digits, which the reader takes.
 use Rattle.std.proofs.Common.{◌≡◌, ◌≢◌, ◌∙◌, ◌==◌, ◌||◌, ◌&&◌, ℕ, zero, suc, ◌+◌, ◌-◌, ◌*◌, ◌<◌, ◌≤◌, ◌^◌, Bool, true, false, not, List, [], ◌∷◌, ◌++◌, length, get_or, Ok, refl, arith, ap, sym, subst}
 use Rattle.std.specs.Prelude.{All, AllPairs, codes, decimal}
-use Rattle.std.specs.List.{AllByRecursion, flat_map, list_any, range_with_len}
+use Rattle.std.specs.List.{AllByRecursion, flat_map, range_with_len}
 use Rattle.std.proofs.lemmas.Bool.{false≢true}
 use Rattle.std.proofs.lemmas.List.Concat.{flat_map-append}
 use Rattle.std.proofs.lemmas.List.Elements.{All-from_recursion}
-use Rattle.ds_lines.specs.Line.{is_some, lines_of}
+use Rattle.ds_lines.specs.Line.{lines_of}
+use Rattle.ds_lines.specs.Print.{HasNo}
+use Rattle.ds_lines.proofs.Lacks.{lacks_at, lacks_cons, lacks_less, neither, number_without, some_bytes}
+use Rattle.ds_lines.proofs.Uncut.{AreClean, IsClean, is_cut}
 use Rattle.ds_marked.specs.Graph.{Graph, IsKept}
 use Rattle.ds_marked.specs.Log.{event_text}
 use Rattle.ds_marked.specs.declared.marked.Event.{Event}
@@ -21,10 +24,9 @@ use Rattle.ds_astg.specs.Text.{graph_text}
 use Rattle.ds_astg.specs.Word.{first_byte, has_reserved, has_slash, is_reserved, is_signal, is_signed, is_slash, last_byte}
 use Rattle.ds_text_laws.specs.AstgText.{IsReadable}
 use Rattle.ds_text_laws.proofs.GraphTextLines.{written_text_is_read}
-use Rattle.ds_text_laws.proofs.WrittenWords.{NoDigit, none_decimal}
 use Rattle.ds_stage.proofs.LineWords.{both_all}
 use Rattle.ds_laws.proofs.ModelName.{IsPrintable}
-use Rattle.ds_laws.proofs.GraphLines.{AreClean, IsClean, clean_behind, graph_plain, is_cut, lacks_less, lacks_parts, neither, ten_digits}
+use Rattle.ds_laws.proofs.GraphLines.{clean_behind, graph_plain}
 
 -- a byte that stands in no such name: one that is cut, `/`, one of `~ < > , { } =`, a sign, a dot
 abbrev is_odd : ℕ → Bool
@@ -33,7 +35,7 @@ is_odd byte = is_cut byte || (is_slash byte || (is_reserved byte || ((byte == 43
 -- a name without such bytes
 record IsFair (name : List ℕ) : Type 0 where
   some : 0 < length name
-  none : list_any is_odd name ≡ false
+  none : HasNo is_odd name
 
 -- such names
 abbrev AreFair : List (List ℕ) → Type 0
@@ -65,20 +67,9 @@ odd_dot : (byte : ℕ) → is_odd byte ≡ false → (byte == 46) ≡ false
 odd_dot byte none =
     (neither (byte == 45) _ (neither (byte == 43) _ (neither (is_reserved byte) _ (neither (is_slash byte) _ (neither (is_cut byte) _ none).1).1).1).1).1
 
--- the byte at a place
-lacks_at : (p : ℕ → Bool) (word : List ℕ) (k : ℕ) → k < length word → list_any p word ≡ false → p (get_or word k 0) ≡ false
-lacks_at p [] k inside none = absurd (omega (arith, inside))
-lacks_at p (byte ∷ word) zero inside none = (lacks_parts p byte word none).0
-lacks_at p (byte ∷ word) (suc k) inside none = lacks_at p word k (omega (arith, inside)) (lacks_parts p byte word none).1
-
--- a name with bytes
-some_is : (name : List ℕ) → 0 < length name → is_some name ≡ true
-some_is [] some = absurd (omega (arith, some))
-some_is (byte ∷ name) some = refl
-
 -- such a name is clean, and a signal that begins with no dot
 fair_clean : (name : List ℕ) → IsFair name → IsClean name
-fair_clean name fair = record { some = some_is name fair.some; none = lacks_less is_odd is_cut odd_cut name fair.none }
+fair_clean name fair = record { some = some_bytes name fair.some; none = lacks_less is_odd is_cut odd_cut name fair.none }
 
 -- where none of three tests holds
 not_both : (a b c : Bool) → a ≡ false → b ≡ false → c ≡ false → (not a && (not b && not c)) ≡ true
@@ -105,14 +96,11 @@ fair_undotted name fair dot =
     let same : (first_byte name == 46) ≡ true = ap (λ (byte : ℕ). byte == 46) dot in
     false≢true (sym other ∙ same)
 
--- a number behind such a name
-no_digit : NoDigit is_odd
-unfolding is_reserved
-no_digit = ten_digits is_odd refl refl refl refl refl refl refl refl refl refl
-
 -- a letter with a number
 fair_number : (byte n : ℕ) → is_odd byte ≡ false → n < 2 ^ 64 → IsFair (byte ∷ decimal n)
-fair_number byte n other small = record { some = omega arith; none = rw (other, none_decimal is_odd no_digit n small) refl }
+unfolding is_reserved
+fair_number byte n other small =
+    record { some = omega arith; none = lacks_cons is_odd byte (decimal n) other (number_without is_odd refl n small).none }
 
 -- the name of a master
 master_fair : (i : ℕ) → i < 2 ^ 64 → IsFair (node_name (Master i))

@@ -39,17 +39,11 @@ use Rattle.ds_stage.proofs.LineWords.{HaveWords, both_all, lines_have_words}
 use Rattle.ds_stage.proofs.FileMeaning.{read_meant}
 use Rattle.std.proofs.lemmas.List.Sums.{prefix_len_stops}
 use Rattle.std.proofs.lemmas.List.{get_or-reverse, get_or-take, length-reverse, length-take-le}
-use Rattle.ds_laws.proofs.GraphLines.{neither}
+use Rattle.ds_lines.proofs.Lacks.{neither}
 use Rattle.ds_laws.proofs.PlainNames.{if_next, unless_holds}
-use Rattle.ds_laws.proofs.Uncut.{IsUncut, uncut_behind}
+use Rattle.ds_lines.proofs.Uncut.{EndsUncut, IsUncut, uncut_behind}
 
--- the last of some words is not cut
-abbrev EndsUncut : List (List ℕ) → Type 0
-EndsUncut [] = ⊥
-EndsUncut (word ∷ []) = IsUncut word
-EndsUncut (word ∷ next ∷ words) = EndsUncut (next ∷ words)
-
--- so it is with a word before it, or words
+-- the last of some words is not cut with a word before it
 ends_behind : (word : List ℕ) (words : List (List ℕ)) → EndsUncut words → EndsUncut (word ∷ words)
 ends_behind word [] ends = absurd ends
 ends_behind word (next ∷ words) ends = ends

@@ -1,6 +1,6 @@
 -- The registers of a netlist that a file stands for have plain names, and each that is there has a
 -- word as its name.
-use Rattle.std.proofs.Common.{◌≡◌, ◌≢◌, ◌∙◌, ◌⊎◌, ◌==◌, ◌||◌, ℕ, zero, suc, ◌+◌, ◌-◌, ◌<◌, ◌≤◌, ◌^◌, Bool, true, false, List, [], ◌∷◌, ◌++◌, length, take, drop, map, Option, None, Some, Result, Ok, Err, refl, arith, sym, subst, inl, inr, if◌then◌else◌}
+use Rattle.std.proofs.Common.{◌≡◌, ◌≢◌, ◌∙◌, ◌⊎◌, ◌==◌, ◌||◌, ℕ, zero, suc, ◌+◌, ◌-◌, ◌<◌, ◌≤◌, Bool, true, false, List, [], ◌∷◌, ◌++◌, length, take, drop, map, Option, None, Some, Result, Ok, Err, refl, arith, sym, subst, inl, inr, if◌then◌else◌}
 use Rattle.std.specs.Prelude.{IfOk, IfSome, codes, decimal, nat_lt, slice_index_or}
 use Rattle.std.specs.List.{AllByRecursion, list_any, position_or_len}
 use Rattle.std.specs.Option.{option_map}
@@ -8,14 +8,14 @@ use Rattle.std.specs.Str.{bytes_eq}
 use Rattle.std.proofs.lemmas.Bool.{cases_Bool, eqb-true, false≢true, ltb-false}
 use Rattle.std.proofs.lemmas.Bool.Decides.{Decides-ltb}
 use Rattle.std.proofs.lemmas.List.{get_or-map}
-use Rattle.std.proofs.lemmas.List.Folds.{list_any-append}
 use Rattle.ds_base.specs.Limit.{most_of}
 use Rattle.ds_base.specs.declared.number.Limit.{Limit}
 use Rattle.ds_base.specs.declared.number.Limit.TheVariants.{Copies}
 use Rattle.ds_outside.specs.Held.{Held, untold, absent, bytes}
 use Rattle.ds_lines.specs.First.{unless_fault}
-use Rattle.ds_lines.specs.Line.{Line, is_some}
-use Rattle.ds_lines.specs.Print.{IsWord}
+use Rattle.ds_lines.specs.Line.{Line}
+use Rattle.ds_lines.specs.Print.{is_apart, IsWord}
+use Rattle.ds_lines.proofs.Lacks.{lacks_both, lacks_drop, number_without, some_bytes, without_both}
 use Rattle.ds_lines.specs.Words.{word_at}
 use Rattle.ds_lines.specs.declared.at.At.{At}
 use Rattle.ds_design.specs.Circuit.{Circuit, register_nets}
@@ -43,7 +43,6 @@ use Rattle.ds_flat.specs.Copies.{Flat, Opened, ◌>>=◌, actuals_in, bindings_i
 use Rattle.ds_flat.specs.Net.{Binding, Scope, has_net, net_in, net_of_name, numbered_names, numbered_nets, with_net}
 use Rattle.ds_flat.specs.declared.fault.FlatKind.{FlatKind}
 use Rattle.ds_rows.specs.Nets.{net_text, register_of}
-use Rattle.ds_replay.proofs.PrintedLogs.{fine_number, word_is}
 use Rattle.ds_stage.specs.FaultText.{blif_text, flat_text}
 use Rattle.ds_stage.specs.Stages.{OfBytes, netlist_stage, text_stage}
 use Rattle.ds_stage.proofs.LineWords.{HaveWords, both_all, lines_have_words}
@@ -88,59 +87,10 @@ each_so : {A : Type 0} (P Q : A → Type 0) → ((x : A) → P x → Q x) → (x
 each_so P Q so [] all = tt
 each_so P Q so (x ∷ xs) (here, all) = (so x here, each_so P Q so xs all)
 
--- plain names: none, a word, two after one another
-nothing_plain : IsPlainName []
-nothing_plain = record { no_blank = refl; no_newline = refl; no_hash = refl }
-
-word_plain : (word : List ℕ) → IsWord word → IsPlainName word
-word_plain word is = record { no_blank = is.no_blank; no_newline = is.no_newline; no_hash = is.no_hash }
-
--- no byte of two texts
-pub lacks_both : (p : ℕ → Bool) (xs ys : List ℕ) → list_any p xs ≡ false → list_any p ys ≡ false → list_any p (xs ++ ys) ≡ false
-lacks_both p xs ys none more = rw (list_any-append p xs ys, none, more) refl
-
-both_plain : (xs ys : List ℕ) → IsPlainName xs → IsPlainName ys → IsPlainName (xs ++ ys)
-both_plain xs ys first second = record {
-  no_blank = lacks_both _ xs ys first.no_blank second.no_blank;
-  no_newline = lacks_both _ xs ys first.no_newline second.no_newline;
-  no_hash = lacks_both _ xs ys first.no_hash second.no_hash;
-}
-
--- words: one with something behind it, and the end of one where something is left
-some_front : (xs ys : List ℕ) → is_some xs ≡ true → is_some (xs ++ ys) ≡ true
-some_front [] ys some = absurd (false≢true some)
-some_front (x ∷ xs) ys some = refl
-
-both_word : (xs ys : List ℕ) → IsWord xs → IsPlainName ys → IsWord (xs ++ ys)
-both_word xs ys first second = record {
-  some = some_front xs ys first.some;
-  no_blank = lacks_both _ xs ys first.no_blank second.no_blank;
-  no_newline = lacks_both _ xs ys first.no_newline second.no_newline;
-  no_hash = lacks_both _ xs ys first.no_hash second.no_hash;
-}
-
-lacks_behind : (p : ℕ → Bool) (byte : ℕ) (name : List ℕ) → list_any p (byte ∷ name) ≡ false → list_any p name ≡ false
-lacks_behind p byte name none = elim (cases_Bool (p byte)) [
-  | inl here ↦ absurd (let found : list_any p (byte ∷ name) ≡ true = rw here refl in false≢true (sym none ∙ found))
-  | inr other ↦ rw other at none
-]
-
-lacks_drop : (p : ℕ → Bool) (n : ℕ) (name : List ℕ) → list_any p name ≡ false → list_any p (drop n name) ≡ false
-lacks_drop p zero name none = none
-lacks_drop p (suc n) [] none = refl
-lacks_drop p (suc n) (byte ∷ name) none = lacks_drop p n name (lacks_behind p byte name none)
-
-long_some : (name : List ℕ) → 0 < length name → is_some name ≡ true
-long_some [] long = absurd (omega (long, arith))
-long_some (byte ∷ name) long = refl
-
+-- the end of a word where something is left
 end_word : (n : ℕ) (name : List ℕ) → IsWord name → nat_lt 0 (length (drop n name)) ≡ true → IsWord (drop n name)
-end_word n name is long = record {
-  some = long_some (drop n name) ((Decides-ltb 0 (length (drop n name))).0 long);
-  no_blank = lacks_drop _ n name is.no_blank;
-  no_newline = lacks_drop _ n name is.no_newline;
-  no_hash = lacks_drop _ n name is.no_hash;
-}
+end_word n name is long =
+    record { some = some_bytes (drop n name) ((Decides-ltb 0 (length (drop n name))).0 long); none = lacks_drop is_apart n name is.none }
 
 -- names that are words, as those of a line
 abbrev AreWords : List (List ℕ) → Type 0
@@ -435,28 +385,19 @@ flat_plain (main ∷ models) (is, are) =
 design_plain : (models : List BlifModel) (c : Circuit) → ArePlainModels models → flat_of models ≡ Ok c → ArePlainNets c.nets
 design_plain models c are is = subst (λ (r : Result Circuit (At FlatKind)). IfOk r (λ d. ArePlainNets d.nets)) is (flat_plain models are)
 
--- the text of a net
-number_word : (n : ℕ) → n ≤ most_of Copies → IsWord (decimal n)
-number_word n few =
-    let small : n < 2 ^ 64 = omega (arith, few) in
-    word_is (decimal n) (fine_number n small)
-
-slash_plain : IsPlainName (codes "/")
-slash_plain = record { no_blank = refl; no_newline = refl; no_hash = refl }
-
--- it is a word with its copy's number before it
+-- the text of a net: it is a word with its copy's number before it
 front_word : (n : ℕ) → n ≤ most_of Copies → IsWord (decimal n ++ codes "/")
-front_word n few = both_word (decimal n) (codes "/") (number_word n few) slash_plain
+front_word n few = without_both is_apart (decimal n) (codes "/") (number_without is_apart refl n (omega (arith, few))) refl
 
 text_word : (net : Net) → IsPlainNet net → IsWord (net_text net)
 text_word net is =
     either_way IsWord (net.copy == 0) net.name (decimal net.copy ++ codes "/" ++ net.name) is.name
-    (both_word (decimal net.copy ++ codes "/") net.name (front_word net.copy is.copy) (word_plain net.name is.name))
+    (without_both is_apart (decimal net.copy ++ codes "/") net.name (front_word net.copy is.copy) is.name.none)
 
 text_plain : (net : Net) → net.copy ≤ most_of Copies → IsPlainName net.name → IsPlainName (net_text net)
 text_plain net few plain =
     either_way IsPlainName (net.copy == 0) net.name (decimal net.copy ++ codes "/" ++ net.name) plain
-    (both_plain (decimal net.copy ++ codes "/") net.name (word_plain (decimal net.copy ++ codes "/") (front_word net.copy few)) plain)
+    (lacks_both is_apart (decimal net.copy ++ codes "/") net.name (front_word net.copy few).none plain)
 
 -- a net that is there, and what stands for one that is not, have plain names
 abbrev IsShown : Net → Type 0
@@ -468,7 +409,7 @@ module _ (c : Circuit) (register : ℕ) (are : ArePlainNets c.nets) where
       let none : Net = record { copy = 0; name = [] } in
       let shown : IsShown (slice_index_or c.nets (slice_index_or (register_nets c) register 0) none) =
       each_at IsShown c.nets (slice_index_or (register_nets c) register 0) none
-      (each_so IsPlainNet IsShown (λ net is. (is.copy, word_plain net.name is.name)) c.nets are) (omega arith, nothing_plain) in
+      (each_so IsPlainNet IsShown (λ net is. (is.copy, is.name.none)) c.nets are) (omega arith, refl) in
       text_plain (slice_index_or c.nets (slice_index_or (register_nets c) register 0) none) shown.0 shown.1
 
   register_word : slice_index_or (register_nets c) register 0 < length c.nets → IsWord (register_of c register)

@@ -1,82 +1,28 @@
 -- The text of a state is whole lines, none of which is the one word `firings`.
-use Rattle.std.proofs.Common.{◌≡◌, ◌≢◌, ◌∙◌, ℕ, zero, suc, ◌+◌, ◌-◌, ◌*◌, ◌<◌, ◌^◌, Bool, true, false, List, [], ◌∷◌, ◌++◌, length, get_or, map, inl, inr, refl, arith, ap, append_assoc, sym, subst}
+use Rattle.std.proofs.Common.{◌≡◌, ◌≢◌, ◌∙◌, ℕ, zero, suc, ◌+◌, ◌*◌, ◌<◌, ◌^◌, true, List, [], ◌∷◌, ◌++◌, length, refl, arith, ap, append_assoc, sym}
 use Rattle.std.specs.Prelude.{codes, decimal}
-use Rattle.std.specs.List.{AllByRecursion, flat_map, list_any, range_with_len, suffix_len}
-use Rattle.std.proofs.lemmas.Bool.{cases_Bool, false≢true}
-use Rattle.std.proofs.lemmas.List.{get_or-append-add, get_or_default, length-append}
-use Rattle.std.proofs.lemmas.List.Folds.{list_any-append, list_any_at, list_any_none}
-use Rattle.std.proofs.lemmas.List.Sums.{suffix_len_is}
+use Rattle.std.specs.List.{AllByRecursion, flat_map, range_with_len}
 use Rattle.ds_base.specs.Values.{Row}
-use Rattle.ds_base.specs.declared.value.Value.TheVariants.{Zero, One, Unknown}
-use Rattle.ds_design.specs.Trace.{value_text, values_text}
-use Rattle.ds_lines.specs.Line.{is_blank, is_end, is_hash, is_newline, is_some}
-use Rattle.ds_lines.specs.Print.{IsPlain, IsWord, line_text, text_of}
+use Rattle.ds_design.specs.Trace.{values_text}
+use Rattle.ds_lines.specs.Line.{is_some}
+use Rattle.ds_lines.specs.Print.{is_apart, IsPlain, IsWord, line_text, text_of}
+use Rattle.ds_lines.proofs.Lacks.{lacks_both}
+use Rattle.ds_lines.proofs.Uncut.{IsClean, clean_line, clean_number, clean_uncut, clean_word, plain_line}
 use Rattle.ds_latch.specs.Plan.{Planned}
 use Rattle.ds_rows.specs.Log.{stored_text}
 use Rattle.ds_rows.specs.Nets.{register_of}
 use Rattle.ds_rows.specs.StateText.{IsStateText}
 use Rattle.ds_replay.specs.Printed.{IsFront}
-use Rattle.ds_replay.proofs.PrintedLogs.{fine_number, word_is}
+use Rattle.ds_rows.proofs.PrintedRows.{clean_values}
 use Rattle.ds_laws.specs.Names.{IsPlainName}
 
--- a test that none of the characters of values passes
-module _ (p : ℕ → Bool) (zero_not : p 48 ≡ false) (one_not : p 49 ≡ false) (unknown_not : p 120 ≡ false) (none_not : p 45 ≡ false) where
-  row_lacks : (row : Row) → list_any p (map value_text row) ≡ false
-  row_lacks [] = refl
-  row_lacks (Zero ∷ row) = rw (zero_not, row_lacks row) refl
-  row_lacks (One ∷ row) = rw (one_not, row_lacks row) refl
-  row_lacks (Unknown ∷ row) = rw (unknown_not, row_lacks row) refl
-
-  values_lack : (row : Row) → list_any p (values_text row) ≡ false
-  values_lack [] = rw none_not refl
-  values_lack (value ∷ row) = row_lacks (value ∷ row)
-
-some_values : (row : Row) → is_some (values_text row) ≡ true
-some_values [] = refl
-some_values (value ∷ row) = refl
-
--- values as they are printed are a word
-values_are_word : (row : Row) → IsWord (values_text row)
-values_are_word row = record {
-  some = some_values row;
-  no_blank = values_lack is_blank refl refl refl refl row;
-  no_newline = values_lack is_newline refl refl refl refl row;
-  no_hash = values_lack is_hash refl refl refl refl row;
-}
-
--- behind what ends so nothing is cut
-not_cut : (front text : List ℕ) → 0 < length text → list_any is_end text ≡ false → suffix_len is_end (front ++ text) ≡ 0
-not_cut front text some none =
-    let i : ℕ = length text - 1 in
-    let whole : length (front ++ text) ≡ length front + length text = length-append front text in
-    let last : length (front ++ text) - 1 ≡ length front + i = omega (arith, some, whole) in
-    let other : is_end (get_or text i 0) ≡ false = elim (cases_Bool (is_end (get_or text i 0))) [
-      | inl cut ↦ absurd (false≢true (sym none ∙ list_any_at is_end text i 0 (omega (arith, some)) cut))
-      | inr kept ↦ kept
-    ] in
-    suffix_len_is is_end (front ++ text) (length (front ++ text)) 0 (omega arith) (λ k from below. absurd (omega arith))
-    (λ _. ap (λ (k : ℕ). is_end (get_or (front ++ text) k 0)) last ∙ (ap is_end (get_or-append-add front text i 0) ∙ other))
-    ∙ omega arith
-
-some_text : (text : List ℕ) → is_some text ≡ true → 0 < length text
-some_text [] some = absurd (cc)
-some_text (byte ∷ text) some = omega arith
-
 -- a name with a colon is a word
-lacks_colon : (p : ℕ → Bool) (name : List ℕ) → list_any p name ≡ false → p 58 ≡ false → list_any p (name ++ codes ":") ≡ false
-lacks_colon p name none other = rw (list_any-append p name (codes ":"), none, other) refl
-
 some_before : (name : List ℕ) → is_some (name ++ codes ":") ≡ true
 some_before [] = refl
 some_before (byte ∷ name) = refl
 
 name_is_word : (name : List ℕ) → IsPlainName name → IsWord (name ++ codes ":")
-name_is_word name plain = record {
-  some = some_before name;
-  no_blank = lacks_colon is_blank name plain.no_blank refl;
-  no_newline = lacks_colon is_newline name plain.no_newline refl;
-  no_hash = lacks_colon is_hash name plain.no_hash refl;
-}
+name_is_word name plain = record { some = some_before name; none = lacks_both is_apart name (codes ":") plain refl }
 
 -- the line of a register
 abbrev register_words : List ℕ → Row → List (List ℕ)
@@ -90,12 +36,8 @@ register_line name values rest =
 
 plain_register : (name : List ℕ) (values : Row) → IsPlainName name → IsPlain (register_words name values)
 plain_register name values plain =
-    let text : List ℕ = values_text values in record {
-      some = refl;
-      each = (name_is_word name plain, (values_are_word values, tt));
-      end = subst (λ (line : List ℕ). suffix_len is_end line ≡ 0) (append_assoc (name ++ codes ":") (codes " ") text)
-          (not_cut (name ++ codes ":" ++ codes " ") text (some_text text (some_values values)) (values_lack is_end refl refl refl refl values));
-    }
+    let clean : IsClean (values_text values) = clean_values values in
+    plain_line (register_words name values) (name_is_word name plain, (clean_word (values_text values) clean, tt)) (clean_uncut (values_text values) clean)
 
 two_words : (a b word : List ℕ) → a ∷ b ∷ [] ≢ word ∷ []
 two_words a b word e = absurd (let long : 2 ≡ 1 = ap length e in omega arith)
@@ -109,25 +51,10 @@ fired_in_words fired most =
     append_assoc (codes "fired " ++ decimal fired) (codes " of ") (decimal most)
     ∙ append_assoc (codes "fired ") (decimal fired) (codes " of " ++ decimal most)
 
-number_lacks : (n : ℕ) → n < 2 ^ 64 → list_any is_end (decimal n) ≡ false
-number_lacks n small = list_any_none is_end (decimal n) (λ k d inside. subst (λ (b : ℕ). is_end b ≡ false) (get_or_default (decimal n) k 0 d inside) ((fine_number n small).each k inside).no_end)
-
 plain_fired : (fired most : ℕ) → fired < 2 ^ 64 → most < 2 ^ 64 → IsPlain (fired_words fired most)
-plain_fired fired most small also = record {
-  some = refl;
-  each = (
-    record { some = refl; no_blank = refl; no_newline = refl; no_hash = refl },
-    (
-      word_is (decimal fired) (fine_number fired small),
-      (
-        record { some = refl; no_blank = refl; no_newline = refl; no_hash = refl },
-        (word_is (decimal most) (fine_number most also), tt),
-      ),
-    ),
-  );
-  end = subst (λ (line : List ℕ). suffix_len is_end line ≡ 0) (fired_in_words fired most)
-      (not_cut (codes "fired " ++ decimal fired ++ codes " of ") (decimal most) (fine_number most also).some (number_lacks most also));
-}
+plain_fired fired most small also =
+    clean_line (codes "fired") (decimal fired ∷ codes "of" ∷ decimal most ∷ [])
+    (record { some = refl; none = refl }, (clean_number fired small, (record { some = refl; none = refl }, (clean_number most also, tt))))
 
 four_words : (a b c d word : List ℕ) → a ∷ b ∷ c ∷ d ∷ [] ≢ word ∷ []
 four_words a b c d word e = absurd (let long : 4 ≡ 1 = ap length e in omega arith)

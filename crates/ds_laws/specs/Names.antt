@@ -1,17 +1,14 @@
 -- The names of registers, as they are printed.
-use Rattle.std.specs.Prelude.{◌≡◌, ◌≢◌, ℕ, false, List}
-use Rattle.std.specs.List.{list_any}
+use Rattle.std.specs.Prelude.{◌≢◌, ℕ, List}
 use Rattle.ds_outside.specs.Held.{Held, untold}
-use Rattle.ds_lines.specs.Line.{is_blank, is_newline, is_hash}
+use Rattle.ds_lines.specs.Print.{is_apart, HasNo}
 use Rattle.ds_design.specs.Circuit.{Circuit}
 use Rattle.ds_rows.specs.Nets.{register_of}
 use Rattle.ds_stage.specs.Stages.{netlist_stage}
 
 -- a name has no blank, no end of a line and no `#`
-pub record IsPlainName (name : List ℕ) : Type 0 where
-  pub no_blank : list_any is_blank name ≡ false
-  pub no_newline : list_any is_newline name ≡ false
-  pub no_hash : list_any is_hash name ≡ false
+abbrev pub IsPlainName : List ℕ → Type 0
+IsPlainName name = HasNo is_apart name
 
 -- the registers of a netlist have such names
 abbrev pub NamesArePlain : Type 0

@@ -1,47 +1,35 @@
 -- A text that prints lines has these lines.
 use Rattle.std.proofs.Common.{◌≡◌, ℕ, suc, ◌+◌, Bool, true, false, List, [], ◌∷◌}
-use Rattle.std.proofs.Common.{◌++◌, length, take, drop, refl, sym, ap, ◌∙◌, arith, inl, inr}
+use Rattle.std.proofs.Common.{◌++◌, length, take, drop, refl, ap, ◌∙◌, arith}
 use Rattle.std.specs.List.{slice_split, list_any, position_or_len}
 use Rattle.std.specs.List.{suffix_len, AllByRecursion}
-use Rattle.std.proofs.lemmas.Bool.{cases_Bool, false≢true}
 use Rattle.std.proofs.lemmas.List.{take_all}
 use Rattle.std.proofs.Math.ListN.{drop_of_length-le}
 use Rattle.ds_lines.specs.Line.{Line, lines_from, lines_of, uncommented, trimmed, kept_len}
 use Rattle.ds_lines.specs.Line.{is_joined, joins, words_in, words_of, is_blank, is_some, is_newline}
 use Rattle.ds_lines.specs.Line.{is_hash, is_backslash, is_end}
-use Rattle.ds_lines.specs.Print.{line_text, text_of, numbered_lines, IsWord, IsPlain}
+use Rattle.ds_lines.specs.Print.{is_apart, line_text, text_of, numbered_lines, HasNo, IsWord}
+use Rattle.ds_lines.specs.Print.{IsPlain}
+use Rattle.ds_lines.proofs.Lacks.{lacks_both, lacks_cons, lacks_less, lacks_parts, no_blank}
+use Rattle.ds_lines.proofs.Lacks.{no_hash, no_newline}
 use Rattle.ds_lines.proofs.JoinedLines.{split-append, words_of-joined}
 
--- where no element passes
-pub none_here : (p : ℕ → Bool) (byte : ℕ) (bytes : List ℕ) → list_any p (byte ∷ bytes) ≡ false → (p byte
-    ≡ false) × (list_any p bytes ≡ false)
-none_here p byte bytes none = elim (cases_Bool (p byte)) [
-  | inl here ↦ absurd (let h : list_any p (byte ∷ bytes) ≡ true = rw here refl in false≢true
-      (sym none ∙ h))
-  | inr other ↦ (other, rw other at none)
-]
-
-pub any-append : (p : ℕ → Bool) (xs ys : List ℕ) → list_any p xs ≡ false → list_any p ys ≡ false
-    → list_any p (xs ++ ys) ≡ false
-any-append p [] ys none more = more
-any-append p (x ∷ xs) ys none more = let (here, behind) = none_here p x xs none in rw
-    (here, any-append p xs ys behind more) refl
-
-pub split_plain : (p : ℕ → Bool) (bytes : List ℕ) → list_any p bytes ≡ false → slice_split p bytes
+pub split_plain : (p : ℕ → Bool) (bytes : List ℕ) → HasNo p bytes → slice_split p bytes
     ≡ bytes ∷ []
 split_plain p [] none = refl
-split_plain p (byte ∷ bytes) none = let (here, behind) = none_here p byte bytes none in rw
+split_plain p (byte ∷ bytes) none = let (here, behind) = lacks_parts p byte bytes none in rw
     (here, split_plain p bytes behind) refl
 
-position_plain : (p : ℕ → Bool) (bytes : List ℕ) → list_any p bytes ≡ false
+position_plain : (p : ℕ → Bool) (bytes : List ℕ) → HasNo p bytes
     → position_or_len p bytes ≡ length bytes
 position_plain p [] none = refl
-position_plain p (byte ∷ bytes) none = let (here, behind) = none_here p byte bytes none in rw
+position_plain p (byte ∷ bytes) none = let (here, behind) = lacks_parts p byte bytes none in rw
     (here, position_plain p bytes behind) (let e : 1 + length bytes ≡ suc (length bytes) =
     omega arith in e)
 
 words_of-word : (word : List ℕ) → IsWord word → words_of word ≡ word ∷ []
-words_of-word word is = rw (split_plain is_blank word is.no_blank, is.some) refl
+words_of-word word is = rw
+    (split_plain is_blank word (lacks_less is_apart is_blank no_blank word is.none), is.some) refl
 
 pub words_of-line_text : (words : List (List ℕ)) → AllByRecursion IsWord words → words_of
     (line_text words) ≡ words
@@ -51,21 +39,26 @@ words_of-line_text (word ∷ next ∷ words) are =
     words_of-joined word (line_text (next ∷ words)) ∙ rw
     (words_of-word word are.0, words_of-line_text (next ∷ words) are.1) refl
 
-pub newline_line_text : (words : List (List ℕ)) → AllByRecursion IsWord words → list_any is_newline
-    (line_text words) ≡ false
-newline_line_text [] are = refl
-newline_line_text (word ∷ []) are = are.0.no_newline
-newline_line_text (word ∷ next ∷ words) are = any-append is_newline word (32 ∷ line_text (next
-    ∷ words)) are.0.no_newline (newline_line_text (next ∷ words) are.1)
+-- a test that fails at a blank and at the bytes of words
+line_text_lacks : (p : ℕ → Bool) → ((byte : ℕ) → is_apart byte ≡ false → p byte ≡ false)
+    → p 32 ≡ false → (words : List (List ℕ)) → AllByRecursion IsWord words → HasNo p
+    (line_text words)
+line_text_lacks p less blank [] are = refl
+line_text_lacks p less blank (word ∷ []) are = lacks_less is_apart p less word are.0.none
+line_text_lacks p less blank (word ∷ next ∷ words) are =
+    lacks_both p word (32 ∷ line_text (next ∷ words)) (lacks_less is_apart p less word are.0.none)
+    (lacks_cons p 32 (line_text (next ∷ words)) blank
+    (line_text_lacks p less blank (next ∷ words) are.1))
 
-pub hash_line_text : (words : List (List ℕ)) → AllByRecursion IsWord words → list_any is_hash
-    (line_text words) ≡ false
-hash_line_text [] are = refl
-hash_line_text (word ∷ []) are = are.0.no_hash
-hash_line_text (word ∷ next ∷ words) are = any-append is_hash word (32 ∷ line_text (next
-    ∷ words)) are.0.no_hash (hash_line_text (next ∷ words) are.1)
+pub newline_line_text : (words : List (List ℕ)) → AllByRecursion IsWord words → HasNo is_newline
+    (line_text words)
+newline_line_text words are = line_text_lacks is_newline no_newline refl words are
 
-uncommented_plain : (line : List ℕ) → list_any is_hash line ≡ false → uncommented line ≡ line
+pub hash_line_text : (words : List (List ℕ)) → AllByRecursion IsWord words → HasNo is_hash
+    (line_text words)
+hash_line_text words are = line_text_lacks is_hash no_hash refl words are
+
+uncommented_plain : (line : List ℕ) → HasNo is_hash line → uncommented line ≡ line
 uncommented_plain line none = rw (position_plain is_hash line none) (take_all (length line) line
     (omega arith))
 

@@ -1,24 +1,21 @@
 -- The text of a legal list is read and fired to the list's end.
-use Rattle.std.proofs.Common.{◌≡◌, ◌≢◌, ◌∙◌, ◌==◌, ℕ, suc, zero, ◌+◌, ◌-◌, ◌<◌, ◌≤◌, ◌^◌, Bool, true, false, List, [], ◌∷◌, ◌++◌, length, drop, get_or, map, Ok, inl, inr, refl, arith, ap, append_assoc, sym, subst}
+use Rattle.std.proofs.Common.{◌≡◌, ◌≢◌, ◌∙◌, ◌==◌, ℕ, suc, zero, ◌+◌, ◌<◌, ◌≤◌, ◌^◌, true, false, List, [], ◌∷◌, ◌++◌, length, drop, get_or, map, Ok, inl, inr, refl, arith, ap, append_assoc, sym, subst}
 use Rattle.std.specs.Prelude.{nat_lt, codes, decimal, All}
-use Rattle.std.specs.List.{AllByRecursion, flat_map, list_any, position_or_len, range_with_len, suffix_len}
+use Rattle.std.specs.List.{AllByRecursion, flat_map, position_or_len, range_with_len}
 use Rattle.std.specs.Str.{bytes_eq}
-use Rattle.std.proofs.lemmas.Bool.{cases_Bool, false≢true, lt-ltb, le-ltb}
+use Rattle.std.proofs.lemmas.Bool.{cases_Bool, lt-ltb, le-ltb}
 use Rattle.std.proofs.lemmas.Bool.Decides.{eqb_tells}
 use Rattle.std.proofs.lemmas.Fmt.{decimal_is_IsNumeral, length-decimal-le}
-use Rattle.std.proofs.lemmas.List.{get_or-append-add, get_or-map, get_or_default, length-append, length-map}
-use Rattle.std.proofs.lemmas.List.Folds.{list_any_none}
-use Rattle.std.proofs.lemmas.List.Sums.{suffix_len_is}
 use Rattle.std.proofs.lemmas.Slice.Eq.{bytes_eq-Decides}
-use Rattle.std.proofs.lemmas.Str.Parse.{digit_at}
 use Rattle.ds_base.specs.Values.{Row}
-use Rattle.ds_base.specs.declared.value.Value.{Value}
-use Rattle.ds_base.specs.declared.value.Value.TheVariants.{Zero, One, Unknown}
+use Rattle.ds_base.specs.declared.value.Value.TheVariants.{Zero}
 use Rattle.ds_design.specs.Circuit.{Circuit}
-use Rattle.ds_design.specs.Trace.{IsTrace, end_line, trace_line, value_text, values_text}
-use Rattle.ds_lines.specs.Line.{Line, is_blank, is_end, is_hash, is_newline, is_some, lines_of}
+use Rattle.ds_design.specs.Trace.{IsTrace, end_line, trace_line, values_text}
+use Rattle.ds_lines.specs.Line.{Line, lines_of}
 use Rattle.ds_lines.specs.Print.{IsPlain, IsWord, line_text, numbered_lines, text_of}
 use Rattle.ds_lines.proofs.PrintedLines.{lines_of-text_of}
+use Rattle.ds_lines.proofs.Uncut.{IsClean, clean_line, clean_number, clean_uncut, clean_word, plain_line}
+use Rattle.ds_rows.proofs.PrintedRows.{clean_values}
 use Rattle.ds_marked.specs.Graph.{Graph, IsLegal, IsLegalFrom, counted}
 use Rattle.ds_marked.specs.Log.{event_text, IsLegalLogFrom, IsLog, IsLogFrom}
 use Rattle.ds_replay.specs.Replay.{is_firings, log_of, replay_from, replay_of, start_of}
@@ -27,108 +24,12 @@ use Rattle.ds_replay.specs.Printed.{HasOwnWords, IsFront}
 use Rattle.ds_replay.proofs.LineFaults.{any_event, event_is, event_within}
 use Rattle.ds_replay.proofs.LogLines.{fires}
 
--- a byte that stands in words, and not at the end of a line as a blank or a `\` does
-pub record IsFine (byte : ℕ) : Type 0 where
-  pub no_end : is_end byte ≡ false
-  pub no_newline : is_newline byte ≡ false
-  pub no_hash : is_hash byte ≡ false
-
--- a word of such bytes
-pub record IsFineWord (word : List ℕ) : Type 0 where
-  pub some : 0 < length word
-  pub each : (i : ℕ) → i < length word → IsFine (get_or word i 0)
-
 other_byte : (b c : ℕ) → b ≢ c → (b == c) ≡ false
 other_byte b c ne = elim (eqb_tells b c) [ inl (is, e) ↦ absurd (ne e) | inr (is, differ) ↦ is ]
 
-fine_digit : (b : ℕ) → 48 ≤ b → b ≤ 57 → IsFine b
-fine_digit b low high =
-    let space : (b == 32) ≡ false = other_byte b 32 (λ e. omega (arith, e)) in
-    let tab : (b == 9) ≡ false = other_byte b 9 (λ e. omega (arith, e)) in
-    let carriage : (b == 13) ≡ false = other_byte b 13 (λ e. omega (arith, e)) in
-    let backslash : (b == 92) ≡ false = other_byte b 92 (λ e. omega (arith, e)) in
-    record {
-      no_end = rw (space, tab, carriage, backslash) refl;
-      no_newline = other_byte b 10 (λ e. omega (arith, e));
-      no_hash = other_byte b 35 (λ e. omega (arith, e));
-    }
-
-fine_value : (v : Value) → IsFine (value_text v)
-fine_value Zero = record { no_end = refl; no_newline = refl; no_hash = refl }
-fine_value One = record { no_end = refl; no_newline = refl; no_hash = refl }
-fine_value Unknown = record { no_end = refl; no_newline = refl; no_hash = refl }
-
-pub fine_number : (n : ℕ) → n < 2 ^ 64 → IsFineWord (decimal n)
-fine_number n small =
-    let (numeral, same) = decimal_is_IsNumeral n small in
-    record {
-      some = numeral.0;
-      each = λ i inside. let (low, high) = digit_at (decimal n) i numeral.1 inside in fine_digit (get_or (decimal n) i 0) low high;
-    }
-
-fine_values : (row : Row) → IsFineWord (values_text row)
-fine_values [] = record {
-  some = omega arith;
-  each = λ i inside. (let first : i ≡ 0 = omega arith in subst (λ (k : ℕ). IsFine (get_or (values_text []) k 0)) (sym first) (record { no_end = refl; no_newline = refl; no_hash = refl }));
-}
-fine_values (value ∷ row) = record {
-  some = omega arith;
-  each = λ i inside.
-      let long : length (map value_text (value ∷ row)) ≡ length (value ∷ row) = length-map (value ∷ row) value_text in
-      let at : get_or (map value_text (value ∷ row)) i 0 ≡ value_text (get_or (value ∷ row) i Zero) = get_or-map value_text (value ∷ row) i Zero 0 (omega (arith, long, inside)) in
-      subst IsFine (sym at) (fine_value (get_or (value ∷ row) i Zero));
-}
-
--- a test that fails at each byte finds none
-none_any : (p : ℕ → Bool) (word : List ℕ) → ((i : ℕ) → i < length word → p (get_or word i 0) ≡ false) → list_any p word ≡ false
-none_any p word fails = list_any_none p word (λ k d inside. subst (λ (b : ℕ). p b ≡ false) (get_or_default word k 0 d inside) (fails k inside))
-
-no_blank : (b : ℕ) → is_end b ≡ false → is_blank b ≡ false
-no_blank b is = elim (cases_Bool (is_blank b)) [
-  | inl blank ↦ absurd (let e : is_end b ≡ true = rw blank refl in false≢true (sym is ∙ e))
-  | inr other ↦ other
-]
-
-some_bytes : (word : List ℕ) → 0 < length word → is_some word ≡ true
-some_bytes [] some = absurd (omega arith)
-some_bytes (byte ∷ word) some = refl
-
-pub word_is : (word : List ℕ) → IsFineWord word → IsWord word
-word_is word fine = record {
-  some = some_bytes word fine.some;
-  no_blank = none_any is_blank word (λ i inside. no_blank (get_or word i 0) (fine.each i inside).no_end);
-  no_newline = none_any is_newline word (λ i inside. (fine.each i inside).no_newline);
-  no_hash = none_any is_hash word (λ i inside. (fine.each i inside).no_hash);
-}
-
--- a text whose last byte is not cut
-record EndsWell (text : List ℕ) : Type 0 where
-  some : 0 < length text
-  last : is_end (get_or text (length text - 1) 0) ≡ false
-
-word_ends : (word : List ℕ) → IsFineWord word → EndsWell word
-word_ends word fine = record { some = fine.some; last = (fine.each (length word - 1) (let some : 0 < length word = fine.some in omega arith)).no_end }
-
-ends_behind : (front text : List ℕ) → EndsWell text → EndsWell (front ++ text)
-ends_behind front text ends =
-    let some : 0 < length text = ends.some in
-    let long : length (front ++ text) ≡ length front + length text = length-append front text in
-    let at : length (front ++ text) - 1 ≡ length front + (length text - 1) = omega arith in
-    record {
-      some = omega arith;
-      last = ap (λ (k : ℕ). is_end (get_or (front ++ text) k 0)) at ∙ (ap is_end (get_or-append-add front text (length text - 1) 0) ∙ ends.last);
-    }
-
-nothing_cut : (text : List ℕ) → EndsWell text → suffix_len is_end text ≡ 0
-nothing_cut text ends = suffix_len_is is_end text (length text) 0 (omega arith) (λ k from below. absurd (omega arith)) (λ some. ends.last) ∙ omega arith
-
 -- a line of a log
-plain_firing : (name turn : List ℕ) → IsWord name → IsFineWord turn → IsPlain (name ∷ turn ∷ [])
-plain_firing name turn word fine = record {
-  some = refl;
-  each = (word, (word_is turn fine, tt));
-  end = nothing_cut (name ++ 32 ∷ turn) (ends_behind name (32 ∷ turn) (ends_behind (32 ∷ []) turn (word_ends turn fine)));
-}
+plain_firing : (name turn : List ℕ) → IsWord name → IsClean turn → IsPlain (name ∷ turn ∷ [])
+plain_firing name turn word clean = plain_line (name ∷ turn ∷ []) (word, (clean_word turn clean, tt)) (clean_uncut turn clean)
 
 -- the lines of a log
 record IsLogged (g : Graph) (limit : ℕ) (count : ℕ → ℕ) (events text : List ℕ) : Type 0 where
@@ -158,7 +59,7 @@ logged g words limit low (v ∷ events) count text (enabled, legal) (name, rest,
       spelt = spelt ∙ (ap (λ (text : List ℕ). name ++ codes " " ++ turn ++ codes "\n" ++ text) more.spelt
           ∙ (append_assoc (name ++ codes " " ++ turn) (codes "\n") (text_of more.lines)
           ∙ ap (λ (front : List ℕ). front ++ 10 ∷ text_of more.lines) (append_assoc name (codes " ") turn)));
-      plain = (plain_firing name turn word (fine_number (count v + 1) small), more.plain);
+      plain = (plain_firing name turn word (clean_number (count v + 1) small), more.plain);
       other = (two_words name turn (codes "firings"), more.other);
       legal = (
         record {
@@ -239,7 +140,7 @@ plain_both [] lines plain more = more
 plain_both (words ∷ front) lines (here, behind) more = (here, plain_both front lines behind more)
 
 plain_word : IsPlain (codes "firings" ∷ [])
-plain_word = record { some = refl; each = (record { some = refl; no_blank = refl; no_newline = refl; no_hash = refl }, tt); end = refl }
+plain_word = clean_line (codes "firings") [] (record { some = refl; none = refl }, tt)
 
 fires_numbered : (g : Graph) → HasOwnWords g → (limit n : ℕ) (lines : List (List (List ℕ))) (events : List ℕ) → IsLegalLogFrom g limit (λ _. 0) lines events
     → replay_from g limit (λ _. 0) (numbered_lines n lines) ≡ Ok events
@@ -285,16 +186,7 @@ turn_line k outputs registers rest =
 
 plain_turn : (k : ℕ) (outputs registers : Row) → k < 2 ^ 64 → IsPlain (turn_words k outputs registers)
 plain_turn k outputs registers small =
-    let out : List ℕ = values_text outputs in
-    let reg : List ℕ = values_text registers in
-    let ends : EndsWell (values_text registers) = word_ends reg (fine_values registers) in
-    record {
-      some = refl;
-      each = (word_is (decimal k) (fine_number k small), (word_is out (fine_values outputs), (word_is reg (fine_values registers), tt)));
-      end = nothing_cut (decimal k ++ 32 ∷ (out ++ 32 ∷ reg))
-          (ends_behind (decimal k) (32 ∷ (out ++ 32 ∷ reg)) (ends_behind (32 ∷ []) (out ++ 32 ∷ reg)
-          (ends_behind out (32 ∷ reg) (ends_behind (32 ∷ []) reg ends))));
-    }
+    clean_line (decimal k) (values_text outputs ∷ values_text registers ∷ []) (clean_number k small, (clean_values outputs, (clean_values registers, tt)))
 
 three_words : (a b c d : List ℕ) → a ∷ b ∷ c ∷ [] ≢ d ∷ []
 three_words a b c d e = absurd (let long : 3 ≡ 1 = ap length e in omega arith)
@@ -320,7 +212,7 @@ turns_other first outputs registers a (suc n) = (three_words (decimal (first + a
 
 -- the last line
 last_plain : (row : Row) → IsPlain (codes "end" ∷ values_text row ∷ [])
-last_plain row = plain_firing (codes "end") (values_text row) (record { some = refl; no_blank = refl; no_newline = refl; no_hash = refl }) (fine_values row)
+last_plain row = clean_line (codes "end") (values_text row ∷ []) (record { some = refl; none = refl }, (clean_values row, tt))
 
 last_line : (row : Row) → end_line row ≡ text_of ((codes "end" ∷ values_text row ∷ []) ∷ [])
 last_line row = refl

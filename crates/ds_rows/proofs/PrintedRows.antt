@@ -1,76 +1,41 @@
 -- What prints rows of values is read as these rows.
-use Rattle.std.proofs.Common.{◌≡◌, ◌∙◌, ◌==◌, ℕ, ◌+◌, ◌-◌, ◌<◌, ◌≤◌, Bool, true, false, suc, List, [], ◌∷◌, None, Ok, length, map, get_or, arith, ap₂, refl, subst}
+use Rattle.std.proofs.Common.{◌≡◌, ◌==◌, ℕ, ◌+◌, ◌<◌, ◌≤◌, true, false, suc, List, [], ◌∷◌, None, Ok, length, map, arith, ap₂, refl, subst}
 use Rattle.std.specs.Prelude.{nat_lt}
-use Rattle.std.specs.List.{All, AllByRecursion, list_all, list_any, suffix_len}
+use Rattle.std.specs.List.{All, AllByRecursion, list_all}
 use Rattle.std.proofs.lemmas.Bool.{eq-eqb, lt-ltb}
 use Rattle.std.proofs.lemmas.List.{length-map}
-use Rattle.std.proofs.Math.ListN.{get_or-map}
 use Rattle.std.proofs.lemmas.List.Elements.{All-head, All-tail}
-use Rattle.std.proofs.lemmas.List.Sums.{suffix_len_is}
 use Rattle.ds_base.specs.Values.{Row}
 use Rattle.ds_base.specs.declared.value.Value.{Value}
 use Rattle.ds_base.specs.declared.value.Value.TheVariants.{Zero, One, Unknown}
 use Rattle.ds_design.specs.Rows.{AreVectors, Rows}
 use Rattle.ds_design.specs.Trace.{value_text, values_text}
-use Rattle.ds_lines.specs.Line.{is_blank, is_end, is_hash, is_newline, lines_of}
-use Rattle.ds_lines.specs.Print.{IsPlain, numbered_lines, text_of}
+use Rattle.ds_lines.specs.Line.{lines_of}
+use Rattle.ds_lines.specs.Print.{HasNo, IsPlain, numbered_lines, text_of}
+use Rattle.ds_lines.proofs.Lacks.{lacks_cons}
 use Rattle.ds_lines.proofs.PrintedLines.{lines_of-text_of}
+use Rattle.ds_lines.proofs.Uncut.{IsClean, clean_line, is_cut}
 use Rattle.ds_rows.specs.Print.{row_words}
 use Rattle.ds_rows.specs.Vector.{fault_of_vector, first_vector_fault, has_bits, has_width, is_bit, row_of, rows_of_lines, value_of_character, vectors_of}
 use Rattle.ds_rows.proofs.RowText.{value_chars}
 
--- no character of a value passes a test that `0`, `1` and `x` fail
-none_passes : (p : ℕ → Bool) → ((v : Value) → p (value_text v) ≡ false) → (row : Row) → list_any p (value_chars row) ≡ false
-none_passes p fails [] = refl
-none_passes p fails (value ∷ row) = rw (fails value) (none_passes p fails row)
+-- values as they are printed are a word of which nothing is cut
+clean_value : (v : Value) → is_cut (value_text v) ≡ false
+clean_value Zero = refl
+clean_value One = refl
+clean_value Unknown = refl
 
-no_blank : (v : Value) → is_blank (value_text v) ≡ false
-no_blank Zero = refl
-no_blank One = refl
-no_blank Unknown = refl
+none_cut : (row : Row) → HasNo is_cut (value_chars row)
+none_cut [] = refl
+none_cut (value ∷ row) = lacks_cons is_cut (value_text value) (value_chars row) (clean_value value) (none_cut row)
 
-no_newline : (v : Value) → is_newline (value_text v) ≡ false
-no_newline Zero = refl
-no_newline One = refl
-no_newline Unknown = refl
-
-no_hash : (v : Value) → is_hash (value_text v) ≡ false
-no_hash Zero = refl
-no_hash One = refl
-no_hash Unknown = refl
-
-no_end : (v : Value) → is_end (value_text v) ≡ false
-no_end Zero = refl
-no_end One = refl
-no_end Unknown = refl
-
--- a word of values ends with a value
-ends_plain : (row : Row) → suffix_len is_end (value_chars row) ≡ 0
-ends_plain row =
-    let chars = value_chars row in
-    let last : (n : ℕ) → 0 < n → is_end (get_or chars (n - 1) (value_text Zero)) ≡ false = λ n some. rw (get_or-map value_text row (n - 1) Zero) (no_end (get_or row (n - 1) Zero)) in
-    suffix_len_is is_end chars (length chars) (value_text Zero) (omega arith) (λ k from below. absurd (omega arith)) (last (length chars)) ∙ omega arith
-
--- a printed row is a line
-plain : (row : Row) → IsPlain (values_text row ∷ [])
-plain [] = record { some = refl; each = (record { some = refl; no_blank = refl; no_newline = refl; no_hash = refl }, tt); end = refl }
-plain (value ∷ row) = record {
-  some = refl;
-  each = (
-    record {
-      some = refl;
-      no_blank = none_passes is_blank no_blank (value ∷ row);
-      no_newline = none_passes is_newline no_newline (value ∷ row);
-      no_hash = none_passes is_hash no_hash (value ∷ row);
-    },
-    tt,
-  );
-  end = ends_plain (value ∷ row);
-}
+pub clean_values : (row : Row) → IsClean (values_text row)
+clean_values [] = record { some = refl; none = refl }
+clean_values (value ∷ row) = record { some = refl; none = none_cut (value ∷ row) }
 
 all_plain : (rows : List Row) → AllByRecursion IsPlain (row_words rows)
 all_plain [] = tt
-all_plain (row ∷ rows) = (plain row, all_plain rows)
+all_plain (row ∷ rows) = (clean_line (values_text row) [] (clean_values row, tt), all_plain rows)
 
 -- a value is printed as a character of a vector, and this character is the value
 printed_value : (v : Value) → (is_bit (value_text v) ≡ true) × (value_of_character (value_text v) ≡ v)

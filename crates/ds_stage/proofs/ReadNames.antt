@@ -6,12 +6,12 @@ use Rattle.std.specs.Str.{bytes_eq}
 use Rattle.std.proofs.lemmas.Bool.{false≢true}
 use Rattle.std.proofs.lemmas.List.{append-nil, length-append}
 use Rattle.std.proofs.lemmas.List.Elements.{All-cons}
-use Rattle.std.proofs.lemmas.List.Folds.{list_any-append}
 use Rattle.std.proofs.Math.Seq.{get_or-append_seam}
 use Rattle.ds_lines.specs.First.{unless_fault, behind_line}
 use Rattle.ds_lines.specs.Words.{word_at}
-use Rattle.ds_lines.specs.Line.{Line, is_blank, is_hash, is_newline, is_some}
-use Rattle.ds_lines.specs.Print.{IsWord}
+use Rattle.ds_lines.specs.Line.{Line}
+use Rattle.ds_lines.specs.Print.{is_apart, IsWord}
+use Rattle.ds_lines.proofs.Lacks.{without_both}
 use Rattle.ds_marked.specs.Graph.{Graph}
 use Rattle.ds_marked.specs.declared.marked.Event.{Event}
 use Rattle.ds_marked.specs.declared.marked.Kind.TheVariants.{Rise, Fall, Dummy as DummyKind}
@@ -126,25 +126,6 @@ step_named Marking line words state next are_words are is = elim (if_was state.i
 step_named End line words state next are_words are is = subst HasNames (one_value state next is) are
 step_named Unknown line words state next are_words are is = absurd (cc)
 
--- a name with a byte that stands in words behind it is a word
-lacks_both : (p : ℕ → Bool) (xs ys : List ℕ) → list_any p xs ≡ false → list_any p ys ≡ false → list_any p (xs ++ ys) ≡ false
-lacks_both p xs ys none more = rw (list_any-append p xs ys, none, more) refl
-
-lacks_one : (p : ℕ → Bool) (b : ℕ) → p b ≡ false → list_any p (b ∷ []) ≡ false
-lacks_one p b other = rw other refl
-
-some_behind : (xs ys : List ℕ) → is_some xs ≡ true → is_some (xs ++ ys) ≡ true
-some_behind [] ys some = absurd (cc)
-some_behind (x ∷ xs) ys some = refl
-
-word_behind : (name : List ℕ) (b : ℕ) → IsWord name → is_blank b ≡ false → is_newline b ≡ false → is_hash b ≡ false → IsWord (name ++ b ∷ [])
-word_behind name b word blank newline hash = record {
-  some = some_behind name (b ∷ []) word.some;
-  no_blank = lacks_both is_blank name (b ∷ []) word.no_blank (lacks_one is_blank b blank);
-  no_newline = lacks_both is_newline name (b ∷ []) word.no_newline (lacks_one is_newline b newline);
-  no_hash = lacks_both is_hash name (b ∷ []) word.no_hash (lacks_one is_hash b hash);
-}
-
 -- a name that ends in a sign is signed
 last_is : (front : List ℕ) (b : ℕ) → last_byte (front ++ b ∷ []) ≡ b
 last_is front b =
@@ -169,8 +150,8 @@ events_spelt (name ∷ names) [] are = λ k d inside. absurd (omega arith)
 events_spelt (name ∷ names) (Signal ∷ roles) (is, are) =
     let rise : Event = record { signal = name; kind = Rise } in
     let fall : Event = record { signal = name; kind = Fall } in
-    All-cons IsSpelt rise (fall ∷ all_events names roles) (word_behind name 43 is.word refl refl refl, λ e. absurd (rise_signed e))
-    (All-cons IsSpelt fall (all_events names roles) (word_behind name 45 is.word refl refl refl, λ e. absurd (fall_signed e)) (events_spelt names roles are))
+    All-cons IsSpelt rise (fall ∷ all_events names roles) (without_both is_apart name (43 ∷ []) is.word refl, λ e. absurd (rise_signed e))
+    (All-cons IsSpelt fall (all_events names roles) (without_both is_apart name (45 ∷ []) is.word refl, λ e. absurd (fall_signed e)) (events_spelt names roles are))
 events_spelt (name ∷ names) (Dummy ∷ roles) (is, are) =
     let dummy : Event = record { signal = name; kind = DummyKind } in
     All-cons IsSpelt dummy (all_events names roles) (subst IsWord (sym (append-nil name)) is.word, λ e. not_signed name is.plain) (events_spelt names roles are)

@@ -1,8 +1,7 @@
 -- The entries of a written graph.
-use Rattle.std.proofs.Common.{◌≡◌, ℕ, zero, suc, ◌+◌, ◌<◌, ◌≤◌, Bool, true, false, List, [], ◌∷◌, ◌++◌, length, refl, sym, ◌∙◌, ap, arith, inl, inr, Option, Some, None, Result, Ok, Err, if◌then◌else◌, ltb, ◌==◌, codes, ◌||◌, decimal}
+use Rattle.std.proofs.Common.{◌≡◌, ℕ, zero, suc, ◌<◌, ◌≤◌, Bool, true, false, List, [], ◌∷◌, ◌++◌, length, refl, sym, ◌∙◌, ap, arith, inl, inr, Option, Some, None, Result, Ok, Err, if◌then◌else◌, ltb, ◌==◌, codes, ◌||◌, decimal}
 use Rattle.std.specs.List.{list_any}
 use Rattle.std.proofs.lemmas.Bool.{cases_Bool, cases_eq, lt-ltb, le-ltb, ltb-true, eqb-true, false≢true}
-use Rattle.std.proofs.lemmas.List.Folds.{list_any-append}
 use Rattle.ds_marked.specs.Graph.{Graph}
 use Rattle.ds_marked.specs.declared.marked.Arc.{Arc}
 use Rattle.ds_astg.specs.Word.{is_byte, is_reserved, has_slash, has_reserved, is_signed}
@@ -19,7 +18,7 @@ use Rattle.ds_text_laws.specs.AstgText.{IsReadable, lists_below, entry_words}
 use Rattle.ds_astg.specs.declared.fault.AstgKind.{AstgKind}
 use Rattle.ds_astg.specs.declared.fault.AstgKind.TheVariants.{Instance, BadWord, UnknownSignal}
 use Rattle.ds_text_laws.proofs.Names.{key_at, plain, texts_read}
-use Rattle.ds_text_laws.proofs.WrittenWords.{none_decimal}
+use Rattle.ds_lines.proofs.Lacks.{lacks_both, number_without}
 use Rattle.ds_text_laws.proofs.Entries.{tokens_are_read, ends_are_read}
 use Rattle.ds_text_laws.proofs.Built.{Built, number_is, stands_there, built_set}
 use Rattle.ds_text_laws.proofs.EventLines.{no_tokens, all_of-append}
@@ -55,15 +54,6 @@ without byte reserved (first ∷ word) none = elim (cases_Bool (is_byte byte fir
     rest true e = absurd (cc)
     rest false e = e
 
-both_without : (test : ℕ → Bool) (xs ys : List ℕ) → list_any test xs ≡ false → list_any test ys ≡ false → list_any test (xs ++ ys) ≡ false
-both_without test xs ys a b = list_any-append test xs ys ∙ rw (a, b) refl
-
-no_equals_digit : (d : ℕ) → d < 10 → is_byte 61 (48 + d) ≡ false
-no_equals_digit d less = elim (cases_Bool (is_byte 61 (48 + d))) [
-  | inl e ↦ absurd (let h : 48 + d ≡ 61 = eqb-true _ _ e in omega (arith, h, less))
-  | inr e ↦ e
-]
-
 module _ (signals : List (List ℕ)) (g : Graph) (readable : IsReadable signals g) where
   -- what stands for an arc in the marking is read as its place
   entry_key : (k : ℕ) → k < length g.arcs → (key_in (plain signals) (entry_name g k) ≡ Some (key_at g k)) × (list_any (is_byte 61) (entry_name g k) ≡ false)
@@ -73,7 +63,7 @@ module _ (signals : List (List ℕ)) (g : Graph) (readable : IsReadable signals 
         let name_is : entry_name g k ≡ place_name k = rw further refl in
         let key_is : key_at g k ≡ Named (place_name k) = rw further refl in (
           ap (key_in (plain signals)) name_is ∙ (let h : key_in (plain signals) (place_name k) ≡ Some (Named (place_name k)) = refl in h ∙ ap (λ (key : Key). Some key) (sym key_is)),
-          ap (list_any (is_byte 61)) name_is ∙ none_decimal (is_byte 61) no_equals_digit k (omega (arith, inside, readable.few_arcs)),
+          ap (list_any (is_byte 61)) name_is ∙ (number_without (is_byte 61) refl k (omega (arith, inside, readable.few_arcs))).none,
         ))
     | inr first ↦ (
         let u = (arc_at g k).source in
@@ -86,9 +76,9 @@ module _ (signals : List (List ℕ)) (g : Graph) (readable : IsReadable signals 
         let key_is : key_at g k ≡ Between u v = rw first refl in (
           ap (key_in (plain signals)) name_is ∙ (ends_are_read (plain signals) (text_of_event g u) (text_of_event g v) u v source.1 target.1 (without 44 refl (text_of_event g u) source.0)
               ∙ ap (λ (key : Key). Some key) (sym key_is)),
-          ap (list_any (is_byte 61)) name_is ∙ both_without (is_byte 61) (codes "<" ++ text_of_event g u ++ codes "," ++ text_of_event g v) (codes ">")
-              (both_without (is_byte 61) (codes "<" ++ text_of_event g u ++ codes ",") (text_of_event g v)
-              (both_without (is_byte 61) (codes "<" ++ text_of_event g u) (codes ",") (without 61 refl (text_of_event g u) source.0) refl) (without 61 refl (text_of_event g v) target.0)) refl,
+          ap (list_any (is_byte 61)) name_is ∙ lacks_both (is_byte 61) (codes "<" ++ text_of_event g u ++ codes "," ++ text_of_event g v) (codes ">")
+              (lacks_both (is_byte 61) (codes "<" ++ text_of_event g u ++ codes ",") (text_of_event g v)
+              (lacks_both (is_byte 61) (codes "<" ++ text_of_event g u) (codes ",") (without 61 refl (text_of_event g u) source.0) refl) (without 61 refl (text_of_event g v) target.0)) refl,
         ))
   ]
 

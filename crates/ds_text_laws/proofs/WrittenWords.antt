@@ -1,15 +1,12 @@
 -- Words that are written are read again.
-use Rattle.std.proofs.Common.{◌≡◌, ◌≢◌, ◌⊎◌, ℕ, zero, suc, ◌+◌, ◌-◌, ◌^◌, ◌<◌, Bool, true, false, not, List, [], ◌∷◌, ◌++◌, length, get_or, take, map, refl, sym, ◌∙◌, ap, arith, inl, inr, AllPairs, Option, None, Some, Ok, ◌&&◌, ◌||◌, ◌==◌, decimal, if◌then◌else◌, slice_get}
+use Rattle.std.proofs.Common.{◌≡◌, ◌≢◌, ◌⊎◌, ℕ, zero, suc, ◌+◌, ◌-◌, ◌<◌, Bool, true, false, not, List, [], ◌∷◌, ◌++◌, length, get_or, take, refl, sym, ◌∙◌, ap, arith, inl, inr, AllPairs, Option, None, Some, Ok, ◌&&◌, ◌||◌, ◌==◌, decimal, if◌then◌else◌, slice_get}
 use Rattle.std.specs.List.{list_any}
 use Rattle.std.specs.Str.{bytes_eq}
-use Rattle.std.proofs.lemmas.Bool.{cases_Bool, cases_lt, false≢true}
+use Rattle.std.proofs.lemmas.Bool.{cases_Bool, false≢true}
 use Rattle.std.proofs.lemmas.Slice.Eq.{bytes_eq-Decides}
 use Rattle.std.proofs.lemmas.List.{append-nil, length-append}
 use Rattle.std.proofs.lemmas.List.Sums.{position_or_len_is}
 use Rattle.std.proofs.lemmas.List.Folds.{list_any_at}
-use Rattle.std.proofs.lemmas.Fmt.{decimal_digit, decimal-digits_of}
-use Rattle.std.specs.Int.Digits.{digits_of, AllBelowBase}
-use Rattle.std.proofs.lemmas.Int.Digits.{all_below_base_digits_of}
 use Rattle.std.proofs.Math.Seq.{get_or-append_seam}
 use Rattle.ds_lines.specs.Names.{place_of_name}
 use Rattle.ds_marked.specs.declared.marked.Event.{Event}
@@ -24,6 +21,7 @@ use Rattle.ds_astg.specs.Text.{place_name}
 use Rattle.ds_text_laws.specs.AstgLaws.{EventsAreRead, PlacesAreRead}
 use Rattle.ds_astg.specs.declared.role.Role.{Role}
 use Rattle.ds_astg.specs.declared.role.Role.TheVariants.{Signal, Dummy}
+use Rattle.ds_lines.proofs.Lacks.{lacks_both, lacks_cons, number_without}
 use Rattle.ds_astg.proofs.DeclaredNames.{count_cons}
 
 -- the last byte, and what stands before it
@@ -38,13 +36,6 @@ front_whole (byte ∷ word) more = ap (λ (w : List ℕ). byte ∷ w) (front_who
 pub front_is : (word : List ℕ) (byte : ℕ) → without_last (word ++ byte ∷ []) ≡ word
 front_is word byte = ap (λ (n : ℕ). take n (word ++ byte ∷ [])) (let l = length-append word (byte ∷ []) in let e : length (word ++ byte ∷ []) - 1 ≡ length word = omega (arith, l) in e)
     ∙ front_whole word (byte ∷ [])
-
-none_more : (test : ℕ → Bool) (word : List ℕ) (byte : ℕ) → list_any test word ≡ false → test byte ≡ false → list_any test (word ++ byte ∷ []) ≡ false
-none_more test [] byte none other = rw other refl
-none_more test (first ∷ word) byte none other = elim (cases_Bool (test first)) [
-  | inl e ↦ absurd (let h : list_any test (first ∷ word) ≡ true = rw e refl in false≢true (sym none ∙ h))
-  | inr e ↦ rw e (none_more test word byte (let h : list_any test (first ∷ word) ≡ list_any test word = rw e refl in sym h ∙ none) other)
-]
 
 three : (a b c : Bool) → (not a && (not b && not c)) ≡ true → (a ≡ false) × (b ≡ false) × (c ≡ false)
 three false false false e = (refl, refl, refl)
@@ -131,7 +122,7 @@ module _ (signals : Declared) (k : ℕ) (distinct : AllPairs (λ a b. a ≢ b) s
       let event : event_in signals word ≡ event_by (Some Signal) first word = event_is word named ∙ ap (λ (r : Role). event_by (Some r) first word) as_signal in
       let known : event_by (Some Signal) first word ≡ Some (first + fall_of word) = rw sign refl in
       let number : fall_of word ≡ (if byte == 43 then 0 else 1) = ap (λ (b : ℕ). if b == 43 then 0 else 1) last in
-      node_is signals word (first + (if byte == 43 then 0 else 1)) (none_more is_slash name byte no_slash slash) (none_more is_reserved name byte no_reserved reserved)
+      node_is signals word (first + (if byte == 43 then 0 else 1)) (lacks_both is_slash name (byte ∷ []) no_slash (lacks_cons is_slash byte [] slash refl)) (lacks_both is_reserved name (byte ∷ []) no_reserved (lacks_cons is_reserved byte [] reserved refl))
       (event ∙ (known ∙ ap (λ (n : ℕ). Some (first + n)) number))
 
   dummy_read : role ≡ Dummy → node_of_word signals (get_or signals.names k []) ≡ Ok (EventNode (first_event signals.roles k))
@@ -163,35 +154,6 @@ events_are_read signals v e distinct is free =
         ap (λ (x : Event). node_of_word signals (event_text x)) event ∙ (ap (node_of_word signals) (append-nil (get_or signals.names k []))
         ∙ (dummy_read signals k distinct inside Dummy role_is named refl ∙ ap (λ (n : ℕ). Ok (EventNode n)) (sym at_first)))
 
--- the digits of a number are no signs and stand in names
-digit_plain : (n : ℕ) → n < 10 → (is_slash (48 + n) ≡ false) × (is_reserved (48 + n) ≡ false) × ((((48 + n) == 43) || ((48 + n) == 45)) ≡ false)
-unfolding is_reserved
-digit_plain zero less = (refl, refl, refl)
-digit_plain (suc zero) less = (refl, refl, refl)
-digit_plain (suc (suc zero)) less = (refl, refl, refl)
-digit_plain (suc (suc (suc zero))) less = (refl, refl, refl)
-digit_plain (suc (suc (suc (suc zero)))) less = (refl, refl, refl)
-digit_plain (suc (suc (suc (suc (suc zero))))) less = (refl, refl, refl)
-digit_plain (suc (suc (suc (suc (suc (suc zero)))))) less = (refl, refl, refl)
-digit_plain (suc (suc (suc (suc (suc (suc (suc zero))))))) less = (refl, refl, refl)
-digit_plain (suc (suc (suc (suc (suc (suc (suc (suc zero)))))))) less = (refl, refl, refl)
-digit_plain (suc (suc (suc (suc (suc (suc (suc (suc (suc zero))))))))) less = (refl, refl, refl)
-digit_plain (suc (suc (suc (suc (suc (suc (suc (suc (suc (suc n)))))))))) less = absurd (omega arith)
-
--- a test that no digit passes
-abbrev pub NoDigit : (ℕ → Bool) → Type 0
-NoDigit test = (d : ℕ) → d < 10 → test (48 + d) ≡ false
-
-none_digit : (test : ℕ → Bool) → NoDigit test → (ds : List ℕ) → AllBelowBase 10 ds → list_any test (map (λ d. 48 + d) ds) ≡ false
-none_digit test fails [] below = refl
-none_digit test fails (d ∷ ds) below = rw (fails d below.0) (none_digit test fails ds below.1)
-
-pub none_decimal : (test : ℕ → Bool) → NoDigit test → (n : ℕ) → n < 2 ^ 64 → list_any test (decimal n) ≡ false
-none_decimal test fails n small = elim (cases_lt 0 n) [
-  | inl some ↦ rw (decimal-digits_of n some small) (none_digit test fails (digits_of 10 n) (all_below_base_digits_of 10 n (omega arith)))
-  | inr none ↦ (let zero_is : n ≡ 0 = omega (arith, none) in rw (zero_is, decimal_digit 0 (omega arith)) (none_digit test fails (0 ∷ []) (omega arith, tt)))
-]
-
 -- a sign
 sign_byte : ℕ → Bool
 sign_byte byte = (byte == 43) || (byte == 45)
@@ -212,9 +174,9 @@ pub places_are_read : PlacesAreRead
 unfolding is_reserved sign_byte
 places_are_read signals k small none_dummy =
     let word : List ℕ = place_name k in
-    let slash : list_any is_slash (decimal k) ≡ false = none_decimal is_slash (λ d less. (digit_plain d less).0) k small in
-    let reserved : list_any is_reserved (decimal k) ≡ false = none_decimal is_reserved (λ d less. (digit_plain d less).1) k small in
-    let signs : list_any sign_byte (decimal k) ≡ false = none_decimal sign_byte (λ d less. (digit_plain d less).2) k small in
+    let slash : list_any is_slash (decimal k) ≡ false = (number_without is_slash refl k small).none in
+    let reserved : list_any is_reserved (decimal k) ≡ false = (number_without is_reserved refl k small).none in
+    let signs : list_any sign_byte (decimal k) ≡ false = (number_without sign_byte refl k small).none in
     let a : has_slash word ≡ false = slash in
     let b : has_reserved word ≡ false = reserved in
     let c : is_signed word ≡ false = unsigned_is 112 (decimal k) signs in
