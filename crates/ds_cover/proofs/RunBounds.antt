@@ -76,7 +76,6 @@ length-between order runs (first ∷ end ∷ bounds) some =
 -- some lists are added
 pub record AreListed (shelves : List Shelved) (bank : List Driven) (lists : List (List ℕ)) (n : ℕ) (order : List ℕ) (runs : List Run) (bounds : List ℕ) : Type 0 where
   pub places : All (λ k. k < length bank) order
-  pub even : AreEven parts
   pub bounded : AreBounded shelves (in_table_order bank order) runs bounds
   pub size : length bounds ≡ n + 1
   pub last : get_or bounds n 0 ≡ length runs

@@ -1,5 +1,5 @@
 -- A table that is added to a series.
-use Rattle.std.proofs.Common.{◌≡◌, ◌≢◌, ℕ, ◌+◌, ◌-◌, ◌<◌, ◌≤◌, true, List, [], ◌∷◌, ◌++◌, length, take, drop, get_or, map, set, refl, ap, arith, sym, ◌∙◌, subst, length-append, length-drop, inl, inr}
+use Rattle.std.proofs.Common.{◌≡◌, ◌≢◌, ℕ, ◌+◌, ◌-◌, ◌^◌, ◌<◌, ◌≤◌, true, List, [], ◌∷◌, ◌++◌, length, take, drop, get_or, map, set, refl, ap, arith, sym, ◌∙◌, subst, length-append, length-drop, inl, inr}
 use Rattle.std.proofs.lemmas.Bool.{cases_eq}
 use Rattle.std.proofs.lemmas.List.{drop-append-le, drop_at, get_or-set_other, length-map, map_push, take_all}
 use Rattle.std.proofs.Common.{append-nil}
@@ -82,14 +82,15 @@ shelf_of small values tables words = record { smalls = map small tables; worded 
 -- one of them is added
 pub word_shelved : {S W : Type 0} (small : S → Small) (values : W → Row) (width : ℕ) (quick : Quick) (word : ℕ) (tables tables' : List S) (words words' : List W) (before : Shelved) (first : ℕ) (table : S) (own : W)
     → length words ≡ length tables → shelf_of small values tables words ≡ before → tables' ≡ tables ++ table ∷ [] → words' ≡ words ++ own ∷ []
-    → first ≡ length tables → IsFolded width quick (small table) → values own ≡ values_of_word width word → IsWordShelved quick width word before (shelf_of small values tables' words') first
-word_shelved small values width quick word tables tables' words words' before first table own even was more more' size folded own_is =
+    → first ≡ length tables → first < 2 ^ 63 → IsFolded width quick (small table) → values own ≡ values_of_word width word → IsWordShelved quick width word before (shelf_of small values tables' words') first
+word_shelved small values width quick word tables tables' words words' before first table own even was more more' size low folded own_is =
     let f = worded_by small values in
     subst (λ (s : Shelved). IsWordShelved quick width word s (shelf_of small values tables' words') first) was (record {
       shelved = record {
         small = small table;
         folded = folded;
         first_is = size ∙ sym (length-map tables small);
+        few = low;
         smalls_are = ap (map small) more ∙ map_push small tables table;
       };
       first_is = size ∙ sym (length-paired f tables words even);

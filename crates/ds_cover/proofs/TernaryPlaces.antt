@@ -6,12 +6,12 @@ use Rattle.ds_base.specs.Values.{Row}
 use Rattle.ds_base.proofs.PackedWords.{code_of-few}
 use Rattle.ds_base.specs.declared.value.Value.{Value}
 use Rattle.ds_base.specs.declared.value.Value.TheVariants.{Zero, One, Unknown}
-use Rattle.ds_cover.specs.Cover.{signed, values_at}
+use Rattle.ds_cover.specs.Cover.{signed, value_at, values_at}
 use Rattle.ds_cover.specs.Bank.{Driven}
 use Rattle.ds_cover.specs.Packed.{masks_value, packed_value, words_of_values}
 use Rattle.ds_cover.specs.Kept.{IsSingle, singles_value}
 use Rattle.ds_cover.specs.Ternary.{IsWordOf, code_value, three_at}
-use Rattle.ds_cover.specs.Small.{Worded, after_worded, paired, place_of, value_in_27, values_of_word, worded_value}
+use Rattle.ds_cover.specs.Small.{Small, Worded, after_worded, paired, place_of, value_in_27, values_of_word, worded_value}
 use Rattle.std.proofs.lemmas.List.FromFn.{get_or-map-range_with_len}
 use Rattle.ds_base.specs.Word.{code_of}
 use Rattle.ds_cover.proofs.SmallTableWords.{singles_are}
@@ -75,3 +75,20 @@ paired-step f tables words i t w nets inside same at at' =
     ap (λ ts. after_worded (paired f ts (drop i words)) nets) here
     ∙ (ap (λ ws. after_worded (paired f (t ∷ drop (suc i) tables) ws) nets) there
     ∙ ap (λ n. after_worded (paired f (drop n tables) (drop n words)) (set nets (f t w).small.output (worded_value (f t w) nets))) m)
+
+-- the word of a table of three inputs, by the codes of their values
+pub worded_at : (word : ℕ) (small : Small) (nets : Row) (result : Value) (a b c i j k d e f : ℕ) → length small.nets ≡ 3 → i ≡ get_or small.nets 0 d → j ≡ get_or small.nets 1 e → k ≡ get_or small.nets 2 f
+    → a ≡ code_of (value_at nets i) → b ≡ code_of (value_at nets j) → c ≡ code_of (value_at nets k) → result ≡ value_in_27 word (a + 3 * b + 9 * c)
+    → result ≡ worded_value (record { small = small; values = values_of_word 3 word }) nets
+worded_at word small nets result a b c i j k d e f three i-is j-is k-is a-is b-is c-is is =
+    is ∙ placed small.nets three i-is j-is k-is
+  where
+    placed : (ids : List ℕ) → length ids ≡ 3 → i ≡ get_or ids 0 d → j ≡ get_or ids 1 e → k ≡ get_or ids 2 f → value_in_27 word (a + 3 * b + 9 * c) ≡ get_or (values_of_word 3 word) (place_of (values_at nets ids)) Zero
+    placed [] size x y z = absurd (omega arith)
+    placed (p ∷ []) size x y z = absurd (omega arith)
+    placed (p ∷ q ∷ []) size x y z = absurd (omega arith)
+    placed (p ∷ q ∷ r ∷ []) size x y z =
+        let at : a + 3 * b + 9 * c ≡ place_of (value_at nets p ∷ value_at nets q ∷ value_at nets r ∷ []) =
+        omega (a-is ∙ ap (λ (n : ℕ). code_of (value_at nets n)) x, b-is ∙ ap (λ (n : ℕ). code_of (value_at nets n)) y, c-is ∙ ap (λ (n : ℕ). code_of (value_at nets n)) z, arith) in
+        ap (value_in_27 word) at ∙ sym (three_of word (value_at nets p) (value_at nets q) (value_at nets r))
+    placed (p ∷ q ∷ r ∷ s ∷ ids) size x y z = absurd (omega arith)

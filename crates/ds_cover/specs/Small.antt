@@ -110,6 +110,7 @@ pub record IsShelved (quick : Quick) (width : ℕ) (before after : Shelved) (fir
   pub small : Small
   pub folded : IsFolded width quick small
   pub first_is : first ≡ length before.smalls
+  pub few : first < 2 ^ 63
   pub smalls_are : after.smalls ≡ before.smalls ++ small ∷ []
 
 -- and with it what it is for all values, out of a word of 27

@@ -8,4 +8,5 @@ returns g c =
     c.args.self.now c.len-first.result c.of.result c.words.result c.self.invariant c.self.view_is
     (c.push_reserved.ensures.items ∙ ap (λ ts. ts ++ c.of.result ∷ []) c.in_ok-reserve.ensures.items)
     (c.push_reserved-2.ensures.items ∙ ap (λ ws. ws ++ c.words.result ∷ []) c.in_ok-reserve-2.ensures.items)
-    (omega (c.len-first.ensures, c.in_ok-reserve.ensures.len, c.self.inside.tables.ok.0, arith)) c.of.ensures c.words.ensures
+    (omega (c.len-first.ensures, c.in_ok-reserve.ensures.len, c.self.inside.tables.ok.0, arith))
+    (omega (c.len-first.ensures, c.in_ok-reserve.ensures.len, c.self.inside.tables.ok.0, c.self.inside.tables.ok.1, c.self.inside.tables.small, arith)) c.of.ensures c.words.ensures
