@@ -1,12 +1,12 @@
 -- A table that is added to a series.
-use Rattle.std.proofs.Common.{◌≡◌, ◌≢◌, ℕ, ◌+◌, ◌-◌, ◌^◌, ◌<◌, ◌≤◌, true, List, [], ◌∷◌, ◌++◌, length, take, drop, get_or, map, set, refl, ap, arith, sym, ◌∙◌, subst, length-append, length-drop, inl, inr}
+use Rattle.std.proofs.Common.{◌≡◌, ◌≢◌, ℕ, ◌+◌, ◌-◌, ◌^◌, ◌<◌, ◌≤◌, true, List, [], ◌∷◌, ◌++◌, length, take, drop, map, refl, ap, arith, sym, ◌∙◌, subst, length-append, length-drop, inl, inr}
 use Rattle.std.proofs.lemmas.Bool.{cases_eq}
 use Rattle.std.proofs.lemmas.List.{drop-append-le, drop_at, get_or-set_other, length-map, map_push, take_all}
 use Rattle.std.proofs.Common.{append-nil}
 use Rattle.ds_base.specs.Values.{Row}
 use Rattle.ds_cover.specs.Bank.{Driven}
 use Rattle.ds_cover.specs.Kept.{IsQuick}
-use Rattle.ds_cover.specs.Small.{IsFolded, IsShelved, IsWordShelved, Shelved, Small, StandsFor, Worded, WordsFor, no_shelf, paired, part_of, values_of_word, worded_by}
+use Rattle.ds_cover.specs.Small.{IsFolded, IsWordShelved, Shelved, Small, StandsFor, Worded, WordsFor, no_shelf, paired, part_of, values_of_word, worded_by}
 use Rattle.ds_cover.specs.Series.{AreFor, AreRuns, IsAddedTo, IsOfWidth, StandsForRun, IsRunOfTables, IsSmallAdded, joined_runs, own_tables, shelf_at, width_of}
 use Rattle.ds_cover.specs.Ternary.{IsWordOf}
 use Rattle.ds_cover.specs.declared.entry.Quick.{Quick}
@@ -14,7 +14,7 @@ use Rattle.ds_cover.specs.declared.run.TableKind.{TableKind}
 use Rattle.ds_cover.specs.declared.run.TableKind.TheVariants.{Twos, Threes, Fours, Fives, Sixes, Others}
 use Rattle.ds_cover.specs.declared.run.Run.{Run}
 use Rattle.ds_cover.proofs.StoredTables.{part_stays}
-use Rattle.ds_cover.proofs.Standing.{stands_for}
+use Rattle.ds_cover.proofs.Folded.{stands_for}
 use Rattle.ds_cover.proofs.TablesByRun.{length-paired, paired-append}
 use Rattle.ds_cover.proofs.UpToThree.{words_for}
 

@@ -1,4 +1,4 @@
-use Rattle.std.proofs.Common.{◌≡◌, ◌∙◌, ◌∷◌, ◌++◌, [], ap, arith, length}
+use Rattle.std.proofs.Common.{◌∙◌, ◌∷◌, ◌++◌, [], ap, arith}
 use Rattle.ds_cover.proofs.SeriesGrowth.{word_shelved}
 use Rattle.ds_cover.proofs.shelf.WordedShelf.add.Goals as goal
 

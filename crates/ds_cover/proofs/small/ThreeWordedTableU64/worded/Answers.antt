@@ -1,4 +1,3 @@
-use Rattle.std.proofs.Common.{◌≡◌}
 use Rattle.ds_cover.proofs.TernaryPlaces.{worded_at}
 use Rattle.ds_cover.proofs.small.ThreeWordedTableU64.worded.Goals as goal
 
