@@ -19,8 +19,6 @@ pub struct Five {
 }
 
 impl SmallTable for Five {
-    ghost use Rattle.ds_cover.specs.Small.{Small};
-
     ghost width = { 5 };
 
     ghost small = { λ t. record { nets = t.nets; truth = t.truth; output = t.output } };
@@ -66,8 +64,6 @@ pub struct Six {
 }
 
 impl SmallTable for Six {
-    ghost use Rattle.ds_cover.specs.Small.{Small};
-
     ghost width = { 6 };
 
     ghost small = { λ t. record { nets = t.nets; truth = t.truth; output = t.output } };
