@@ -7,7 +7,8 @@ use Rattle.std.proofs.lemmas.List.Elements.{All-cons, All-nil}
 use Rattle.ds_base.specs.Values.{Row}
 use Rattle.ds_cover.specs.Bank.{Driven, after_table, after_tables, driven_at}
 use Rattle.ds_cover.proofs.LentRows.{length-after_tables}
-use Rattle.ds_cover.specs.Series.{AreRuns, FindsKnown, IsRunOfTables, Parts, after_each, in_table_order, numbers_in, numbers_of, own_tables}
+use Rattle.ds_cover.specs.Series.{AreRuns, FindsKnown, IsRunOfTables, after_each, in_table_order, numbers_in, numbers_of, own_tables}
+use Rattle.ds_cover.specs.Small.{Shelved}
 use Rattle.ds_cover.specs.declared.run.Run.{Run}
 use Rattle.ds_cover.proofs.RunTables.{own_in_order, run_after}
 use Rattle.ds_cover.proofs.TablesByRun.{drop-drop, finds-split}
@@ -71,14 +72,14 @@ pub record IsLeftKnown (bank : List Driven) (order : List ℕ) (initial nets : R
   pub set : IsLeft bank order initial nets runs left
   pub known : FindsKnown (tables_of bank order left) nets
 
-module _ (parts : Parts) (bank : List Driven) (order : List ℕ) where
+module _ (shelves : List Shelved) (bank : List Driven) (order : List ℕ) where
   -- the runs of a series, each
-  pub runs_each : (at : ℕ) (runs : List Run) → AreRuns parts (in_table_order bank order) at runs → All (IsRunOfTables parts (in_table_order bank order)) runs
-  runs_each at [] are = All-nil (IsRunOfTables parts (in_table_order bank order))
-  runs_each at (run ∷ runs) (here, is, rest) = All-cons (IsRunOfTables parts (in_table_order bank order)) run runs is (runs_each (at + (run.end - run.first)) runs rest)
+  pub runs_each : (at : ℕ) (runs : List Run) → AreRuns shelves (in_table_order bank order) at runs → All (IsRunOfTables shelves (in_table_order bank order)) runs
+  runs_each at [] are = All-nil (IsRunOfTables shelves (in_table_order bank order))
+  runs_each at (run ∷ runs) (here, is, rest) = All-cons (IsRunOfTables shelves (in_table_order bank order)) run runs is (runs_each (at + (run.end - run.first)) runs rest)
 
   -- and the numbers of their tables are the order from there on
-  pub runs_numbers : (at : ℕ) (runs : List Run) → AreRuns parts (in_table_order bank order) at runs → numbers_of order runs ≡ drop at order
+  pub runs_numbers : (at : ℕ) (runs : List Run) → AreRuns shelves (in_table_order bank order) at runs → numbers_of order runs ≡ drop at order
   runs_numbers at [] are =
       let size : length (in_table_order bank order) ≡ length order = length-map order (driven_at bank) in
       sym (drop_all at order (let e : at ≡ length (in_table_order bank order) = are in omega (e, size, arith)))

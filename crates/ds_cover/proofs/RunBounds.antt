@@ -9,7 +9,8 @@ use Rattle.ds_base.specs.Values.{Row}
 use Rattle.ds_cover.specs.Bank.{Driven, after_tables, driven_at}
 use Rattle.ds_cover.proofs.StoredTables.{part_stays}
 use Rattle.ds_cover.specs.Selections.{AreBounded, Selected, lists_between}
-use Rattle.ds_cover.specs.Series.{AreAdded, AreEven, FindsKnown, IsRunOfTables, Parts, in_table_order, numbers_in, numbers_of, part_of}
+use Rattle.ds_cover.specs.Series.{AreAdded, FindsKnown, IsRunOfTables, in_table_order, numbers_in, numbers_of}
+use Rattle.ds_cover.specs.Small.{Shelved, no_shelf, part_of}
 use Rattle.ds_cover.specs.declared.run.Run.{Run}
 use Rattle.ds_cover.proofs.RemainingRuns.{runs_each, runs_numbers}
 use Rattle.ds_cover.proofs.TablesByRun.{All-drop, All-take}
@@ -73,21 +74,19 @@ length-between order runs (first ∷ end ∷ bounds) some =
     omega (rest, arith)
 
 -- some lists are added
-pub record AreListed (parts : Parts) (bank : List Driven) (lists : List (List ℕ)) (n : ℕ) (order : List ℕ) (runs : List Run) (bounds : List ℕ) : Type 0 where
+pub record AreListed (shelves : List Shelved) (bank : List Driven) (lists : List (List ℕ)) (n : ℕ) (order : List ℕ) (runs : List Run) (bounds : List ℕ) : Type 0 where
   pub places : All (λ k. k < length bank) order
-  pub even : AreEven parts
-  pub bounded : AreBounded parts (in_table_order bank order) runs bounds
+  pub bounded : AreBounded shelves (in_table_order bank order) runs bounds
   pub size : length bounds ≡ n + 1
   pub last : get_or bounds n 0 ≡ length runs
   pub listed : lists_between order runs bounds ≡ take n lists
 
 -- no list yet
-pub listed_none : (bank : List Driven) (lists : List (List ℕ)) → AreListed (record { twos = []; nines = []; threes = []; three_words = []; fours = []; fives = []; sixes = [] }) bank lists 0 [] [] (0 ∷ [])
+pub listed_none : (bank : List Driven) (lists : List (List ℕ)) → AreListed (no_shelf ∷ no_shelf ∷ no_shelf ∷ no_shelf ∷ no_shelf ∷ []) bank lists 0 [] [] (0 ∷ [])
 listed_none bank lists = record {
   places = All-nil (λ k. k < length bank);
-  even = record { twos = refl; threes = refl };
   bounded = record {
-    each = All-nil (IsRunOfTables (record { twos = []; nines = []; threes = []; three_words = []; fours = []; fives = []; sixes = [] }) (in_table_order bank []));
+    each = All-nil (IsRunOfTables (no_shelf ∷ no_shelf ∷ no_shelf ∷ no_shelf ∷ no_shelf ∷ []) (in_table_order bank []));
     some = omega arith;
     inside = All-push (λ b. b ≤ 0) [] 0 (All-nil (λ b. b ≤ 0)) (omega arith);
     rising = λ i low. absurd (omega arith);
@@ -98,7 +97,7 @@ listed_none bank lists = record {
 }
 
 -- one list more
-module _ (old new : Parts) (bank : List Driven) (lists : List (List ℕ)) (n : ℕ) (order list : List ℕ) (before after : List Run) (bounds : List ℕ)
+module _ (old new : List Shelved) (bank : List Driven) (lists : List (List ℕ)) (n : ℕ) (order list : List ℕ) (before after : List Run) (bounds : List ℕ)
     (so_far : AreListed old bank lists n order before bounds) (within : All (λ k. k < length bank) list)
     (added : AreAdded old new (in_table_order bank (order ++ list)) (length order) before after) where
   abbrev own : List Run
@@ -155,7 +154,6 @@ module _ (old new : Parts) (bank : List Driven) (lists : List (List ℕ)) (n : �
   listed_more end' is item inside more =
       subst (λ (m : ℕ). AreListed new bank lists (n + 1) (order ++ list) after (bounds ++ m ∷ [])) (sym is) (record {
         places = All-append (λ k. k < length bank) order list so_far.places within;
-        even = added.even;
         bounded = record {
           each = subst (λ (rs : List Run). All (IsRunOfTables new (in_table_order bank (order ++ list))) rs) (sym added.behind)
               (All-append (IsRunOfTables new (in_table_order bank (order ++ list))) before own each_before (runs_each new bank (order ++ list) (length order) own added.runs));
@@ -173,7 +171,7 @@ module _ (old new : Parts) (bank : List Driven) (lists : List (List ℕ)) (n : �
       })
 
 -- what a list's number says of its bounds
-module _ (parts : Parts) (bank : List Driven) (order : List ℕ) (runs : List Run) (bounds : List ℕ) (bounded : AreBounded parts (in_table_order bank order) runs bounds)
+module _ (shelves : List Shelved) (bank : List Driven) (order : List ℕ) (runs : List Run) (bounds : List ℕ) (bounded : AreBounded shelves (in_table_order bank order) runs bounds)
     (selected : Selected) (is : record { tables = bank; lists = lists_between order runs bounds } ≡ selected) where
   pub count_is : length selected.lists + 1 ≡ length bounds
   count_is = ap (λ (s : Selected). length s.lists + 1) (sym is) ∙ length-between order runs bounds bounded.some
@@ -194,10 +192,10 @@ module _ (parts : Parts) (bank : List Driven) (order : List ℕ) (runs : List Ru
     pub bounds_inside : end ≤ length runs
     bounds_inside = (let low : get_or bounds (n + 1) 0 ≤ length runs = bounded.inside (n + 1) 0 there in omega (low, at_end, arith))
 
-    pub each_part : (part : List Run) → part ≡ part_of first end runs → All (IsRunOfTables parts (in_table_order bank order)) part
+    pub each_part : (part : List Run) → part ≡ part_of first end runs → All (IsRunOfTables shelves (in_table_order bank order)) part
     each_part part part_is =
-        subst (λ (rs : List Run). All (IsRunOfTables parts (in_table_order bank order)) rs) (sym part_is)
-        (All-take (IsRunOfTables parts (in_table_order bank order)) (end - first) (drop first runs) (All-drop (IsRunOfTables parts (in_table_order bank order)) first runs bounded.each))
+        subst (λ (rs : List Run). All (IsRunOfTables shelves (in_table_order bank order)) rs) (sym part_is)
+        (All-take (IsRunOfTables shelves (in_table_order bank order)) (end - first) (drop first runs) (All-drop (IsRunOfTables shelves (in_table_order bank order)) first runs bounded.each))
 
     numbers_are : (part : List Run) → part ≡ part_of first end runs → numbers_of order part ≡ get_or (lists_between order runs bounds) n []
     numbers_are part part_is =

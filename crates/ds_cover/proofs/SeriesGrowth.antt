@@ -1,26 +1,22 @@
 -- A table that is added to a series.
-use Rattle.std.proofs.Common.{◌≡◌, ℕ, ◌+◌, ◌-◌, ◌≤◌, true, List, [], ◌∷◌, ◌++◌, length, take, drop, map, refl, ap, arith, sym, ◌∙◌, subst, length-append, length-drop}
-use Rattle.std.proofs.lemmas.List.{drop-append-le, drop_at, length-map, map-append, map_push, take_all}
+use Rattle.std.proofs.Common.{◌≡◌, ◌≢◌, ℕ, ◌+◌, ◌-◌, ◌^◌, ◌<◌, ◌≤◌, true, List, [], ◌∷◌, ◌++◌, length, take, drop, map, refl, ap, arith, sym, ◌∙◌, subst, length-append, length-drop, inl, inr}
+use Rattle.std.proofs.lemmas.Bool.{cases_eq}
+use Rattle.std.proofs.lemmas.List.{drop-append-le, drop_at, get_or-set_other, length-map, map_push, take_all}
 use Rattle.std.proofs.Common.{append-nil}
+use Rattle.ds_base.specs.Values.{Row}
 use Rattle.ds_cover.specs.Bank.{Driven}
 use Rattle.ds_cover.specs.Kept.{IsQuick}
-use Rattle.ds_cover.specs.Small.{StandsFor, WordsFor, paired, small_five, small_four, small_six, small_three, small_two, worded_three, worded_two}
-use Rattle.ds_cover.specs.Series.{AreFor, AreRuns, IsAddedTo, IsOfKind, StandsForRun, IsRunOfTables, IsSmallAdded, Parts, joined_runs, own_tables, part_of}
+use Rattle.ds_cover.specs.Small.{IsFolded, IsWordShelved, Shelved, Small, StandsFor, Worded, WordsFor, no_shelf, paired, part_of, values_of_word, worded_by}
+use Rattle.ds_cover.specs.Series.{AreFor, AreRuns, IsAddedTo, IsOfWidth, StandsForRun, IsRunOfTables, IsSmallAdded, joined_runs, own_tables, shelf_at, width_of}
+use Rattle.ds_cover.specs.Ternary.{IsWordOf}
 use Rattle.ds_cover.specs.declared.entry.Quick.{Quick}
 use Rattle.ds_cover.specs.declared.run.TableKind.{TableKind}
 use Rattle.ds_cover.specs.declared.run.TableKind.TheVariants.{Twos, Threes, Fours, Fives, Sixes, Others}
 use Rattle.ds_cover.specs.declared.run.Run.{Run}
-use Rattle.ds_cover.specs.declared.nine.Nine.{Nine}
-use Rattle.ds_cover.specs.declared.small.Two.{Two}
-use Rattle.ds_cover.specs.declared.small.Three.{Three}
-use Rattle.ds_cover.specs.declared.small.Four.{Four}
-use Rattle.ds_cover.specs.declared.wide.Five.{Five}
-use Rattle.ds_cover.specs.declared.wide.Six.{Six}
 use Rattle.ds_cover.proofs.StoredTables.{part_stays}
-use Rattle.ds_cover.proofs.Folded.{four_for, three_for, two_for}
+use Rattle.ds_cover.proofs.Folded.{stands_for}
 use Rattle.ds_cover.proofs.TablesByRun.{length-paired, paired-append}
-use Rattle.ds_cover.proofs.UpToThree.{three_words, two_words}
-use Rattle.ds_cover.proofs.Unfolded.{five_for, six_for}
+use Rattle.ds_cover.proofs.UpToThree.{words_for}
 
 module _ {S : Type 0} (IsFor : S → Driven → Type 0) where
   standing-more : (smalls : List S) (tables : List Driven) (s : S) (t : Driven) → AreFor IsFor smalls tables → IsFor s t → AreFor IsFor (smalls ++ s ∷ []) (tables ++ t ∷ [])
@@ -79,161 +75,128 @@ part_more IsFor smalls s tables t last run low whole meets first one part stands
           (standing-more IsFor (part_of last.first last.end smalls) (own_tables tables last) s t part.stands stands));
     }
 
--- each list has more behind
-pub record Grows (old new : Parts) : Type 0 where
-  pub twos : List Two
-  pub nines : List Nine
-  pub threes : List Three
-  pub three_words : List ℕ
-  pub fours : List Four
-  pub fives : List Five
-  pub sixes : List Six
-  pub is : new ≡ record {
-    twos = old.twos ++ twos;
-    nines = old.nines ++ nines;
-    threes = old.threes ++ threes;
-    three_words = old.three_words ++ three_words;
-    fours = old.fours ++ fours;
-    fives = old.fives ++ fives;
-    sixes = old.sixes ++ sixes;
-  }
+-- tables of one size with their words
+abbrev pub shelf_of : {S W : Type 0} → (S → Small) → (W → Row) → List S → List W → Shelved
+shelf_of small values tables words = record { smalls = map small tables; worded = paired (worded_by small values) tables words }
 
-module _ (old new : Parts) (even : length old.nines ≡ length old.twos) (even' : length old.three_words ≡ length old.threes) (grows : Grows old new) (tables others : List Driven) where
-  kind_stays : (run : Run) → run.first ≤ run.end → run.at + (run.end - run.first) ≤ length tables → (kind : TableKind) → IsOfKind old tables run kind → IsOfKind new (tables ++ others) run kind
-  kind_stays run low fits Twos (part, words) =
-      subst (λ (p : Parts). StandsForRun StandsFor (map small_two p.twos) (tables ++ others) run × StandsForRun WordsFor (paired worded_two p.twos p.nines) (tables ++ others) run) (sym grows.is) (
-        subst (λ ss. StandsForRun StandsFor ss (tables ++ others) run) (sym (map-append small_two old.twos grows.twos)) (part_longer StandsFor (map small_two old.twos) (map small_two grows.twos) tables others run low fits part),
-        subst (λ ss. StandsForRun WordsFor ss (tables ++ others) run) (sym (paired-append worded_two old.twos grows.twos old.nines grows.nines even))
-            (part_longer WordsFor (paired worded_two old.twos old.nines) (paired worded_two grows.twos grows.nines) tables others run low fits words),
-      )
-  kind_stays run low fits Threes (part, words) =
-      subst (λ (p : Parts). StandsForRun StandsFor (map small_three p.threes) (tables ++ others) run × StandsForRun WordsFor (paired worded_three p.threes p.three_words) (tables ++ others) run) (sym grows.is) (
-        subst (λ ss. StandsForRun StandsFor ss (tables ++ others) run) (sym (map-append small_three old.threes grows.threes)) (part_longer StandsFor (map small_three old.threes) (map small_three grows.threes) tables others run low fits part),
-        subst (λ ss. StandsForRun WordsFor ss (tables ++ others) run) (sym (paired-append worded_three old.threes grows.threes old.three_words grows.three_words even'))
-            (part_longer WordsFor (paired worded_three old.threes old.three_words) (paired worded_three grows.threes grows.three_words) tables others run low fits words),
-      )
-  kind_stays run low fits Fours part =
-      subst (λ (p : Parts). StandsForRun StandsFor (map small_four p.fours) (tables ++ others) run) (sym grows.is)
-      (subst (λ ss. StandsForRun StandsFor ss (tables ++ others) run) (sym (map-append small_four old.fours grows.fours)) (part_longer StandsFor (map small_four old.fours) (map small_four grows.fours) tables others run low fits part))
-  kind_stays run low fits Fives part =
-      subst (λ (p : Parts). StandsForRun StandsFor (map small_five p.fives) (tables ++ others) run) (sym grows.is)
-      (subst (λ ss. StandsForRun StandsFor ss (tables ++ others) run) (sym (map-append small_five old.fives grows.fives)) (part_longer StandsFor (map small_five old.fives) (map small_five grows.fives) tables others run low fits part))
-  kind_stays run low fits Sixes part =
-      subst (λ (p : Parts). StandsForRun StandsFor (map small_six p.sixes) (tables ++ others) run) (sym grows.is)
-      (subst (λ ss. StandsForRun StandsFor ss (tables ++ others) run) (sym (map-append small_six old.sixes grows.sixes)) (part_longer StandsFor (map small_six old.sixes) (map small_six grows.sixes) tables others run low fits part))
-  kind_stays run low fits Others is = is
+-- one of them is added
+pub word_shelved : {S W : Type 0} (small : S → Small) (values : W → Row) (width : ℕ) (quick : Quick) (word : ℕ) (tables tables' : List S) (words words' : List W) (before : Shelved) (first : ℕ) (table : S) (own : W)
+    → length words ≡ length tables → shelf_of small values tables words ≡ before → tables' ≡ tables ++ table ∷ [] → words' ≡ words ++ own ∷ []
+    → first ≡ length tables → first < 2 ^ 63 → IsFolded width quick (small table) → values own ≡ values_of_word width word → IsWordShelved quick width word before (shelf_of small values tables' words') first
+word_shelved small values width quick word tables tables' words words' before first table own even was more more' size low folded own_is =
+    let f = worded_by small values in
+    subst (λ (s : Shelved). IsWordShelved quick width word s (shelf_of small values tables' words') first) was (record {
+      shelved = record {
+        small = small table;
+        folded = folded;
+        first_is = size ∙ sym (length-map tables small);
+        few = low;
+        smalls_are = ap (map small) more ∙ map_push small tables table;
+      };
+      first_is = size ∙ sym (length-paired f tables words even);
+      worded_are = ap (λ ts. paired f ts words') more ∙ (ap (paired f (tables ++ table ∷ [])) more'
+          ∙ (paired-append f tables (table ∷ []) words (own ∷ []) even
+          ∙ ap (λ (vs : Row). paired f tables words ++ record { small = small table; values = vs } ∷ []) own_is));
+    })
+
+-- a shelf has more behind
+pub record Grows (old new : Shelved) (width : ℕ) : Type 0 where
+  pub smalls : List Small
+  pub smalls_are : new.smalls ≡ old.smalls ++ smalls
+  pub worded_are : width ≤ 3 → (more : List Worded) × (new.worded ≡ old.worded ++ more)
+
+grows_none : (old new : Shelved) (width : ℕ) → new ≡ old → Grows old new width
+grows_none old new width is = record {
+  smalls = [];
+  smalls_are = ap (λ (s : Shelved). s.smalls) is ∙ sym (append-nil old.smalls);
+  worded_are = λ few. ([], ap (λ (s : Shelved). s.worded) is ∙ sym (append-nil old.worded));
+}
+
+-- all shelves have
+abbrev pub AllGrow : List Shelved → List Shelved → Type 0
+AllGrow old new = (width : ℕ) → 2 ≤ width → width ≤ 6 → Grows (shelf_at old width) (shelf_at new width) width
+
+width_low : (kind : TableKind) → 2 ≤ width_of kind
+width_low Twos = omega arith
+width_low Threes = omega arith
+width_low Fours = omega arith
+width_low Fives = omega arith
+width_low Sixes = omega arith
+width_low Others = omega arith
+
+module _ (old new : List Shelved) (grow : AllGrow old new) (tables others : List Driven) where
+  width_stays : (run : Run) → run.first ≤ run.end → run.at + (run.end - run.first) ≤ length tables → (width : ℕ) → 2 ≤ width
+      → IsOfWidth (shelf_at old width) tables run width → IsOfWidth (shelf_at new width) (tables ++ others) run width
+  width_stays run low fits width two is = record {
+    small = λ six.
+        let g = grow width two six in
+        subst (λ ss. StandsForRun StandsFor ss (tables ++ others) run) (sym g.smalls_are)
+        (part_longer StandsFor (shelf_at old width).smalls g.smalls tables others run low fits (is.small six));
+    worded = λ few.
+        let g = grow width two (omega (few, arith)) in
+        let (more, are) = g.worded_are few in
+        subst (λ ss. StandsForRun WordsFor ss (tables ++ others) run) (sym are)
+        (part_longer WordsFor (shelf_at old width).worded more tables others run low fits (is.worded few));
+    other = is.other;
+  }
 
   pub run_stays : (run : Run) → IsRunOfTables old tables run → IsRunOfTables new (tables ++ others) run
   run_stays run is =
       let fits = is.fits in
       let l : length (tables ++ others) ≡ length tables + length others = length-append tables others in
-      record { low = is.low; fits = omega arith; kind = kind_stays run is.low is.fits run.kind is.kind }
-
--- the lists with none behind
-none_more : (p : Parts) → p ≡ record {
-  twos = p.twos ++ [];
-  nines = p.nines ++ [];
-  threes = p.threes ++ [];
-  three_words = p.three_words ++ [];
-  fours = p.fours ++ [];
-  fives = p.fives ++ [];
-  sixes = p.sixes ++ [];
-}
-none_more p = rw (append-nil p.twos, append-nil p.nines, append-nil p.threes, append-nil p.three_words, append-nil p.fours, append-nil p.fives, append-nil p.sixes) refl
-
--- nothing is added
-pub grows_none : (parts : Parts) → Grows parts parts
-grows_none parts = record { twos = []; nines = []; threes = []; three_words = []; fours = []; fives = []; sixes = []; is = none_more parts }
+      record { low = is.low; fits = omega arith; kind = width_stays run is.low is.fits (width_of run.kind) (width_low run.kind) is.kind }
 
 -- what is added stands for the table
-module _ (quick : Quick) (old new : Parts) (even : length old.nines ≡ length old.twos) (even' : length old.three_words ≡ length old.threes) (tables : List Driven) (t : Driven) (run : Run)
+module _ (quick : Quick) (old new : List Shelved) (tables : List Driven) (t : Driven) (run : Run)
     (added : IsSmallAdded quick t.cover.masks t.cover.on (length t.cover.inputs) (length tables) old new run)
     (drives : quick.output ≡ t.output) (is_quick : quick.few ≡ true → IsQuick quick t.cover) where
-  abbrev IsAdded' : TableKind → Type 0
-  IsAdded' kind = IsAddedTo quick t.cover.masks t.cover.on (length t.cover.inputs) (length tables) old new run.first kind
-
-  kind_one : (kind : TableKind) → IsAdded' kind → IsOfKind new (tables ++ t ∷ []) run kind
-  kind_one Twos (two, word, nine, few, small, folded, worded, values, first, is) =
-      let stands = two_for quick t (small_two two) (is_quick few) drives folded t.cover.inputs refl small in
-      let words = two_words quick t two word nine (is_quick few) drives folded worded values t.cover.inputs refl small in
-      subst (λ (p : Parts). StandsForRun StandsFor (map small_two p.twos) (tables ++ t ∷ []) run × StandsForRun WordsFor (paired worded_two p.twos p.nines) (tables ++ t ∷ []) run) (sym is) (
-        subst (λ ss. StandsForRun StandsFor ss (tables ++ t ∷ []) run) (sym (map_push small_two old.twos two))
-            (part_one StandsFor (map small_two old.twos) (small_two two) tables t run added.at_is (first ∙ sym (length-map old.twos small_two)) added.one stands),
-        subst (λ ss. StandsForRun WordsFor ss (tables ++ t ∷ []) run) (sym (paired-append worded_two old.twos (two ∷ []) old.nines (nine ∷ []) even))
-            (part_one WordsFor (paired worded_two old.twos old.nines) (worded_two two nine) tables t run added.at_is (first ∙ sym (length-paired worded_two old.twos old.nines even)) added.one words),
-      )
-  kind_one Threes (three, word, few, small, folded, worded, first, is) =
-      let stands = three_for quick t (small_three three) (is_quick few) drives folded t.cover.inputs refl small in
-      let words = three_words quick t three word (is_quick few) drives folded worded t.cover.inputs refl small in
-      subst (λ (p : Parts). StandsForRun StandsFor (map small_three p.threes) (tables ++ t ∷ []) run × StandsForRun WordsFor (paired worded_three p.threes p.three_words) (tables ++ t ∷ []) run) (sym is) (
-        subst (λ ss. StandsForRun StandsFor ss (tables ++ t ∷ []) run) (sym (map_push small_three old.threes three))
-            (part_one StandsFor (map small_three old.threes) (small_three three) tables t run added.at_is (first ∙ sym (length-map old.threes small_three)) added.one stands),
-        subst (λ ss. StandsForRun WordsFor ss (tables ++ t ∷ []) run) (sym (paired-append worded_three old.threes (three ∷ []) old.three_words (word ∷ []) even'))
-            (part_one WordsFor (paired worded_three old.threes old.three_words) (worded_three three word) tables t run added.at_is (first ∙ sym (length-paired worded_three old.threes old.three_words even')) added.one words),
-      )
-  kind_one Fours (four, few, small, folded, first, is) =
-      subst (λ (p : Parts). StandsForRun StandsFor (map small_four p.fours) (tables ++ t ∷ []) run) (sym is)
-      (subst (λ ss. StandsForRun StandsFor ss (tables ++ t ∷ []) run) (sym (map_push small_four old.fours four))
-      (part_one StandsFor (map small_four old.fours) (small_four four) tables t run added.at_is (first ∙ sym (length-map old.fours small_four)) added.one
-      (four_for quick t (small_four four) (is_quick few) drives folded t.cover.inputs refl small)))
-  kind_one Fives (five, few, small, folded, first, is) =
-      subst (λ (p : Parts). StandsForRun StandsFor (map small_five p.fives) (tables ++ t ∷ []) run) (sym is)
-      (subst (λ ss. StandsForRun StandsFor ss (tables ++ t ∷ []) run) (sym (map_push small_five old.fives five))
-      (part_one StandsFor (map small_five old.fives) (small_five five) tables t run added.at_is (first ∙ sym (length-map old.fives small_five)) added.one
-      (five_for quick t (small_five five) (is_quick few) drives folded t.cover.inputs refl small)))
-  kind_one Sixes (six, few, small, folded, first, is) =
-      subst (λ (p : Parts). StandsForRun StandsFor (map small_six p.sixes) (tables ++ t ∷ []) run) (sym is)
-      (subst (λ ss. StandsForRun StandsFor ss (tables ++ t ∷ []) run) (sym (map_push small_six old.sixes six))
-      (part_one StandsFor (map small_six old.sixes) (small_six six) tables t run added.at_is (first ∙ sym (length-map old.sixes small_six)) added.one
-      (six_for quick t (small_six six) (is_quick few) drives folded t.cover.inputs refl small)))
-  kind_one Others (first, is) = first ∙ sym added.at_is
+  abbrev IsAdded' : ℕ → Type 0
+  IsAdded' width = IsAddedTo quick t.cover.masks t.cover.on (length t.cover.inputs) (length tables) old new run.first width
 
   longer : length (tables ++ t ∷ []) ≡ length tables + 1
   longer = length-append tables (t ∷ [])
+
+  stands : (width : ℕ) → 2 ≤ width → (is : IsAdded' width) → (six : width ≤ 6) → StandsFor (is.small six).small t
+  stands width two is six = stands_for quick t (is.small six).small width two six (is_quick (is.few six)) drives (is.small six).folded (is.fits six)
+
+  words : (width : ℕ) → 2 ≤ width → (is : IsAdded' width) → (few : width ≤ 3) (word : ℕ) → IsWordOf t.cover.masks t.cover.on word
+      → (s : IsWordShelved quick width word (shelf_at old width) (shelf_at new width) run.first) → WordsFor (record { small = s.shelved.small; values = values_of_word width word }) t
+  words width two is few word is_word s =
+      words_for quick t s.shelved.small word width two few (is_quick (is.few (omega (few, arith)))) drives s.shelved.folded is_word (is.fits (omega (few, arith)))
+
+  width_one : (width : ℕ) → 2 ≤ width → IsAdded' width → IsOfWidth (shelf_at new width) (tables ++ t ∷ []) run width
+  width_one width two is = record {
+    small = λ six.
+        let s = is.small six in
+        subst (λ ss. StandsForRun StandsFor ss (tables ++ t ∷ []) run) (sym s.smalls_are)
+        (part_one StandsFor (shelf_at old width).smalls s.small tables t run added.at_is s.first_is added.one (stands width two is six));
+    worded = λ few.
+        let (word, is_word, s) = is.worded few in
+        subst (λ ss. StandsForRun WordsFor ss (tables ++ t ∷ []) run) (sym s.worded_are)
+        (part_one WordsFor (shelf_at old width).worded (record { small = s.shelved.small; values = values_of_word width word }) tables t run added.at_is s.first_is added.one (words width two is few word is_word s));
+    other = λ many. is.other many ∙ sym added.at_is;
+  }
 
   run_one : IsRunOfTables new (tables ++ t ∷ []) run
   run_one =
       let one = added.one in
       let at = added.at_is in
       let l = longer in
-      record { low = omega arith; fits = omega arith; kind = kind_one run.kind added.kind }
+      record { low = omega arith; fits = omega arith; kind = width_one (width_of run.kind) (width_low run.kind) added.kind }
 
   module _ (last : Run) (meets : last.end ≡ run.first) (whole : last.at + (last.end - last.first) ≡ length tables) (is_run : IsRunOfTables old tables last) where
-    kind_more : (kind : TableKind) → IsAdded' kind → IsOfKind old tables last kind → IsOfKind new (tables ++ t ∷ []) (joined_runs last run) kind
-    kind_more Twos (two, word, nine, few, small, folded, worded, values, first, is) (part, was) =
-        let stands = two_for quick t (small_two two) (is_quick few) drives folded t.cover.inputs refl small in
-        let words = two_words quick t two word nine (is_quick few) drives folded worded values t.cover.inputs refl small in
-        subst (λ (p : Parts). StandsForRun StandsFor (map small_two p.twos) (tables ++ t ∷ []) (joined_runs last run) × StandsForRun WordsFor (paired worded_two p.twos p.nines) (tables ++ t ∷ []) (joined_runs last run)) (sym is) (
-          subst (λ ss. StandsForRun StandsFor ss (tables ++ t ∷ []) (joined_runs last run)) (sym (map_push small_two old.twos two))
-              (part_more StandsFor (map small_two old.twos) (small_two two) tables t last run is_run.low whole meets (first ∙ sym (length-map old.twos small_two)) added.one part stands),
-          subst (λ ss. StandsForRun WordsFor ss (tables ++ t ∷ []) (joined_runs last run)) (sym (paired-append worded_two old.twos (two ∷ []) old.nines (nine ∷ []) even))
-              (part_more WordsFor (paired worded_two old.twos old.nines) (worded_two two nine) tables t last run is_run.low whole meets (first ∙ sym (length-paired worded_two old.twos old.nines even)) added.one was words),
-        )
-    kind_more Threes (three, word, few, small, folded, worded, first, is) (part, was) =
-        let stands = three_for quick t (small_three three) (is_quick few) drives folded t.cover.inputs refl small in
-        let words = three_words quick t three word (is_quick few) drives folded worded t.cover.inputs refl small in
-        subst (λ (p : Parts). StandsForRun StandsFor (map small_three p.threes) (tables ++ t ∷ []) (joined_runs last run) × StandsForRun WordsFor (paired worded_three p.threes p.three_words) (tables ++ t ∷ []) (joined_runs last run)) (sym is) (
-          subst (λ ss. StandsForRun StandsFor ss (tables ++ t ∷ []) (joined_runs last run)) (sym (map_push small_three old.threes three))
-              (part_more StandsFor (map small_three old.threes) (small_three three) tables t last run is_run.low whole meets (first ∙ sym (length-map old.threes small_three)) added.one part stands),
-          subst (λ ss. StandsForRun WordsFor ss (tables ++ t ∷ []) (joined_runs last run)) (sym (paired-append worded_three old.threes (three ∷ []) old.three_words (word ∷ []) even'))
-              (part_more WordsFor (paired worded_three old.threes old.three_words) (worded_three three word) tables t last run is_run.low whole meets (first ∙ sym (length-paired worded_three old.threes old.three_words even')) added.one was words),
-        )
-    kind_more Fours (four, few, small, folded, first, is) part =
-        subst (λ (p : Parts). StandsForRun StandsFor (map small_four p.fours) (tables ++ t ∷ []) (joined_runs last run)) (sym is)
-        (subst (λ ss. StandsForRun StandsFor ss (tables ++ t ∷ []) (joined_runs last run)) (sym (map_push small_four old.fours four))
-        (part_more StandsFor (map small_four old.fours) (small_four four) tables t last run is_run.low whole meets (first ∙ sym (length-map old.fours small_four)) added.one part
-        (four_for quick t (small_four four) (is_quick few) drives folded t.cover.inputs refl small)))
-    kind_more Fives (five, few, small, folded, first, is) part =
-        subst (λ (p : Parts). StandsForRun StandsFor (map small_five p.fives) (tables ++ t ∷ []) (joined_runs last run)) (sym is)
-        (subst (λ ss. StandsForRun StandsFor ss (tables ++ t ∷ []) (joined_runs last run)) (sym (map_push small_five old.fives five))
-        (part_more StandsFor (map small_five old.fives) (small_five five) tables t last run is_run.low whole meets (first ∙ sym (length-map old.fives small_five)) added.one part
-        (five_for quick t (small_five five) (is_quick few) drives folded t.cover.inputs refl small)))
-    kind_more Sixes (six, few, small, folded, first, is) part =
-        subst (λ (p : Parts). StandsForRun StandsFor (map small_six p.sixes) (tables ++ t ∷ []) (joined_runs last run)) (sym is)
-        (subst (λ ss. StandsForRun StandsFor ss (tables ++ t ∷ []) (joined_runs last run)) (sym (map_push small_six old.sixes six))
-        (part_more StandsFor (map small_six old.sixes) (small_six six) tables t last run is_run.low whole meets (first ∙ sym (length-map old.sixes small_six)) added.one part
-        (six_for quick t (small_six six) (is_quick few) drives folded t.cover.inputs refl small)))
-    kind_more Others (first, is) at = at
+    width_more : (width : ℕ) → 2 ≤ width → IsAdded' width → IsOfWidth (shelf_at old width) tables last width → IsOfWidth (shelf_at new width) (tables ++ t ∷ []) (joined_runs last run) width
+    width_more width two is was = record {
+      small = λ six.
+          let s = is.small six in
+          subst (λ ss. StandsForRun StandsFor ss (tables ++ t ∷ []) (joined_runs last run)) (sym s.smalls_are)
+          (part_more StandsFor (shelf_at old width).smalls s.small tables t last run is_run.low whole meets s.first_is added.one (was.small six) (stands width two is six));
+      worded = λ few.
+          let (word, is_word, s) = is.worded few in
+          subst (λ ss. StandsForRun WordsFor ss (tables ++ t ∷ []) (joined_runs last run)) (sym s.worded_are)
+          (part_more WordsFor (shelf_at old width).worded (record { small = s.shelved.small; values = values_of_word width word }) tables t last run is_run.low whole meets s.first_is added.one (was.worded few) (words width two is few word is_word s));
+      other = was.other;
+    }
 
     run_more : last.kind ≡ run.kind → IsRunOfTables new (tables ++ t ∷ []) (joined_runs last run)
     run_more kind =
@@ -243,80 +206,27 @@ module _ (quick : Quick) (old new : Parts) (even : length old.nines ≡ length o
         record {
           low = omega arith;
           fits = omega arith;
-          kind = kind_more last.kind (subst IsAdded' (sym kind) added.kind) is_run.kind;
+          kind = width_more (width_of last.kind) (width_low last.kind) (subst (λ (k : TableKind). IsAdded' (width_of k)) (sym kind) added.kind) is_run.kind;
         }
 
-  grown : (kind : TableKind) → IsAdded' kind → Grows old new
-  grown Twos (two, word, nine, few, small, folded, worded, values, first, is) = record {
-    twos = two ∷ [];
-    nines = nine ∷ [];
-    threes = [];
-    three_words = [];
-    fours = [];
-    fives = [];
-    sixes = [];
-    is = is ∙ rw (append-nil old.threes, append-nil old.three_words, append-nil old.fours, append-nil old.fives, append-nil old.sixes) refl;
-  }
-  grown Threes (three, word, few, small, folded, worded, first, is) = record {
-    twos = [];
-    nines = [];
-    threes = three ∷ [];
-    three_words = word ∷ [];
-    fours = [];
-    fives = [];
-    sixes = [];
-    is = is ∙ rw (append-nil old.twos, append-nil old.nines, append-nil old.fours, append-nil old.fives, append-nil old.sixes) refl;
-  }
-  grown Fours (four, few, small, folded, first, is) = record {
-    twos = [];
-    nines = [];
-    threes = [];
-    three_words = [];
-    fours = four ∷ [];
-    fives = [];
-    sixes = [];
-    is = is ∙ rw (append-nil old.twos, append-nil old.nines, append-nil old.threes, append-nil old.three_words, append-nil old.fives, append-nil old.sixes) refl;
-  }
-  grown Fives (five, few, small, folded, first, is) = record {
-    twos = [];
-    nines = [];
-    threes = [];
-    three_words = [];
-    fours = [];
-    fives = five ∷ [];
-    sixes = [];
-    is = is ∙ rw (append-nil old.twos, append-nil old.nines, append-nil old.threes, append-nil old.three_words, append-nil old.fours, append-nil old.sixes) refl;
-  }
-  grown Sixes (six, few, small, folded, first, is) = record {
-    twos = [];
-    nines = [];
-    threes = [];
-    three_words = [];
-    fours = [];
-    fives = [];
-    sixes = six ∷ [];
-    is = is ∙ rw (append-nil old.twos, append-nil old.nines, append-nil old.threes, append-nil old.three_words, append-nil old.fours, append-nil old.fives) refl;
-  }
-  grown Others (first, is) = record { twos = []; nines = []; threes = []; three_words = []; fours = []; fives = []; sixes = []; is = is ∙ none_more old }
+  own_grows : (width : ℕ) → IsAdded' width → width ≤ 6 → Grows (shelf_at old width) (shelf_at new width) width
+  own_grows width is six =
+      let s = is.small six in
+      record {
+        smalls = s.small ∷ [];
+        smalls_are = s.smalls_are;
+        worded_are = λ few. let (word, is_word, w) = is.worded few in (record { small = w.shelved.small; values = values_of_word width word } ∷ [], w.worded_are);
+      }
 
-  pub grows : Grows old new
-  grows = grown run.kind added.kind
-
-  pub evens : (kind : TableKind) → IsAdded' kind → (length new.nines ≡ length new.twos) × (length new.three_words ≡ length new.threes)
-  evens Twos (two, word, nine, few, small, folded, worded, values, first, is) =
-      subst (λ (p : Parts). (length p.nines ≡ length p.twos) × (length p.three_words ≡ length p.threes)) (sym is)
-      (let a = length-append old.twos (two ∷ []) in let b = length-append old.nines (nine ∷ []) in (omega arith, even'))
-  evens Threes (three, word, few, small, folded, worded, first, is) =
-      subst (λ (p : Parts). (length p.nines ≡ length p.twos) × (length p.three_words ≡ length p.threes)) (sym is)
-      (let a = length-append old.threes (three ∷ []) in let b = length-append old.three_words (word ∷ []) in (even, omega arith))
-  evens Fours (four, few, small, folded, first, is) =
-      subst (λ (p : Parts). (length p.nines ≡ length p.twos) × (length p.three_words ≡ length p.threes)) (sym is) (even, even')
-  evens Fives (five, few, small, folded, first, is) =
-      subst (λ (p : Parts). (length p.nines ≡ length p.twos) × (length p.three_words ≡ length p.threes)) (sym is) (even, even')
-  evens Sixes (six, few, small, folded, first, is) =
-      subst (λ (p : Parts). (length p.nines ≡ length p.twos) × (length p.three_words ≡ length p.threes)) (sym is) (even, even')
-  evens Others (first, is) =
-      subst (λ (p : Parts). (length p.nines ≡ length p.twos) × (length p.three_words ≡ length p.threes)) (sym is) (even, even')
+  pub grows : AllGrow old new
+  grows width two six = elim (cases_eq width (width_of run.kind)) [
+    | inl e ↦ own_grows width (subst IsAdded' (sym e) added.kind) six
+    | inr ne ↦
+        (let low = width_low run.kind in
+        let other : width - 2 ≢ width_of run.kind - 2 = λ same. ne (omega (same, two, low, arith)) in
+        grows_none (shelf_at old width) (shelf_at new width) width
+        (ap (λ (ss : List Shelved). shelf_at ss width) added.kind.rest ∙ get_or-set_other old (width_of run.kind - 2) (width - 2) (shelf_at new (width_of run.kind)) no_shelf other))
+  ]
 
   pub runs_alone : (at : ℕ) (runs : List Run) → AreRuns old tables at runs → AreRuns new (tables ++ t ∷ []) at (runs ++ run ∷ [])
   runs_alone at [] are =
@@ -324,7 +234,7 @@ module _ (quick : Quick) (old new : Parts) (even : length old.nines ≡ length o
       let here = added.at_is in
       let l = longer in
       (here ∙ sym are, run_one, omega arith)
-  runs_alone at (r ∷ runs) (here, is, rest) = (here, run_stays old new even even' grows tables (t ∷ []) r is, runs_alone (at + (r.end - r.first)) runs rest)
+  runs_alone at (r ∷ runs) (here, is, rest) = (here, run_stays old new grows tables (t ∷ []) r is, runs_alone (at + (r.end - r.first)) runs rest)
 
   pub runs_joined : (at : ℕ) (front : List Run) (last : Run) → last.end ≡ run.first → last.kind ≡ run.kind → AreRuns old tables at (front ++ last ∷ []) → AreRuns new (tables ++ t ∷ []) at (front ++ joined_runs last run ∷ [])
   runs_joined at [] last meets kind (here, is, all) =
@@ -334,4 +244,4 @@ module _ (quick : Quick) (old new : Parts) (even : length old.nines ≡ length o
       let e : last.at ≡ at = here in
       let w : at + (last.end - last.first) ≡ length tables = all in
       (here, run_more last meets (omega arith) is kind, omega arith)
-  runs_joined at (r ∷ front) last meets kind (here, is, rest) = (here, run_stays old new even even' grows tables (t ∷ []) r is, runs_joined (at + (r.end - r.first)) front last meets kind rest)
+  runs_joined at (r ∷ front) last meets kind (here, is, rest) = (here, run_stays old new grows tables (t ∷ []) r is, runs_joined (at + (r.end - r.first)) front last meets kind rest)

@@ -1,13 +1,13 @@
 -- Tables that are set run by run.
-use Rattle.std.proofs.Common.{◌≡◌, ℕ, zero, suc, ◌+◌, ◌-◌, ◌<◌, ◌≤◌, List, [], ◌∷◌, ◌++◌, length, take, drop, map, set, refl, ap, arith, sym, ◌∙◌, subst}
+use Rattle.std.proofs.Common.{◌≡◌, ℕ, zero, suc, ◌+◌, ◌-◌, ◌<◌, List, [], ◌∷◌, ◌++◌, length, take, drop, map, set, refl, ap, arith, sym, ◌∙◌, subst}
 use Rattle.std.specs.Prelude.{All}
 use Rattle.std.proofs.lemmas.List.{drop-map, get_or-map, length-map, take-map}
 use Rattle.std.proofs.lemmas.List.Elements.{All-head, All-tail, All-cons}
 use Rattle.ds_base.specs.Values.{Row}
 use Rattle.ds_cover.specs.Packed.{packed_value}
 use Rattle.ds_cover.specs.Bank.{Driven, AreNetsWithin, driven_at}
-use Rattle.ds_cover.specs.Small.{IsSmallWithin, Small, StandsFor, Worded, WordsFor, after_smalls, after_worded, paired, small_value, worded_value}
-use Rattle.ds_cover.specs.Series.{AreFor, FindsKnown, StandsForRun, after_each, in_table_order, own_tables, part_of}
+use Rattle.ds_cover.specs.Small.{IsSmallWithin, Small, StandsFor, Worded, WordsFor, after_smalls, after_worded, paired, part_of, small_value, worded_value}
+use Rattle.ds_cover.specs.Series.{AreFor, FindsKnown, StandsForRun, after_each, in_table_order, own_tables}
 use Rattle.ds_cover.specs.declared.run.Run.{Run}
 use Rattle.ds_cover.proofs.LentRows.{length-set}
 
@@ -76,18 +76,18 @@ order_within bank (n ∷ order) nets places within =
     All-cons (λ t. AreNetsWithin t nets) (driven_at bank n) (in_table_order bank order) (within n _ low)
     (order_within bank order nets (All-tail (λ k. k < length bank) n order places) within)
 
--- a run of one kind
-module _ {A : Type 0} (f : A → Small) (xs : List A) (tables : List Driven) (run : Run) (nets : Row) (part : StandsForRun StandsFor (map f xs) tables run) where
-  pub part_within : All (λ t. AreNetsWithin t nets) tables → All (λ x. IsSmallWithin (f x) nets) (part_of run.first run.end xs)
-  part_within within =
-      All-unmap f (λ s. IsSmallWithin s nets) (part_of run.first run.end xs)
-      (subst (λ ss. All (λ s. IsSmallWithin s nets) ss) (part-map f run.first run.end xs)
-      (smalls_within (part_of run.first run.end (map f xs)) (own_tables tables run) nets part.stands (own_within tables run nets within)))
+-- a part of small tables is within
+pub part_unmap : {A : Type 0} (f : A → Small) (first end : ℕ) (xs : List A) (nets : Row) → All (λ s. IsSmallWithin s nets) (part_of first end (map f xs)) → All (λ x. IsSmallWithin (f x) nets) (part_of first end xs)
+part_unmap f first end xs nets within =
+    All-unmap f (λ s. IsSmallWithin s nets) (part_of first end xs) (subst (λ (ss : List Small). All (λ s. IsSmallWithin s nets) ss) (part-map f first end xs) within)
 
-  pub part_after : FindsKnown (own_tables tables run) nets → after_smalls (map f (part_of run.first run.end xs)) nets ≡ after_each (own_tables tables run) nets
-  part_after known =
-      ap (λ ss. after_smalls ss nets) (sym (part-map f run.first run.end xs))
-      ∙ smalls_after (part_of run.first run.end (map f xs)) (own_tables tables run) nets part.stands known
+-- a run of one size
+module _ (smalls : List Small) (tables : List Driven) (run : Run) (nets : Row) (part : StandsForRun StandsFor smalls tables run) where
+  pub part_within : All (λ t. AreNetsWithin t nets) tables → All (λ s. IsSmallWithin s nets) (part_of run.first run.end smalls)
+  part_within within = smalls_within (part_of run.first run.end smalls) (own_tables tables run) nets part.stands (own_within tables run nets within)
+
+  pub part_after : FindsKnown (own_tables tables run) nets → after_smalls (part_of run.first run.end smalls) nets ≡ after_each (own_tables tables run) nets
+  part_after known = smalls_after (part_of run.first run.end smalls) (own_tables tables run) nets part.stands known
 
 -- tables by their words set the same
 pub worded_after : (items : List Worded) (tables : List Driven) (nets : Row) → AreFor WordsFor items tables → after_worded items nets ≡ after_each tables nets
@@ -129,16 +129,6 @@ module _ {A W : Type 0} (f : A → W → Worded) where
   length-paired [] ws same = refl
   length-paired (x ∷ xs) [] same = absurd (omega arith)
   length-paired (x ∷ xs) (w ∷ ws) same = ap suc (length-paired xs ws (omega arith))
-
-  pub words_after : (xs : List A) (ws : List W) (tables : List Driven) (run : Run) (nets : Row) → StandsForRun WordsFor (paired f xs ws) tables run
-      → after_worded (paired f (part_of run.first run.end xs) (part_of run.first run.end ws)) nets ≡ after_each (own_tables tables run) nets
-  words_after xs ws tables run nets part =
-      ap (λ ss. after_worded ss nets) (sym (paired-part run.first run.end xs ws)) ∙ worded_after (part_of run.first run.end (paired f xs ws)) (own_tables tables run) nets part.stands
-
-pub paired-short : {A W : Type 0} (f : A → W → Worded) (xs : List A) (ws : List W) → length (paired f xs ws) ≤ length ws
-paired-short f [] ws = omega arith
-paired-short f (x ∷ xs) [] = omega arith
-paired-short f (x ∷ xs) (w ∷ ws) = (let s = paired-short f xs ws in omega arith)
 
 -- as many values as before
 pub length-after_smalls : (smalls : List Small) (nets : Row) → length (after_smalls smalls nets) ≡ length nets

@@ -1,14 +1,13 @@
--- Packed tables in the order in which they are set, small ones in lists by kind, and runs of them.
-use Rattle.std.specs.Prelude.{◌≡◌, ℕ, ◌+◌, ◌-◌, ◌≤◌, Bool, true, List, [], ◌∷◌, ◌++◌, length, map}
-use Rattle.std.specs.Prelude.{take, drop, slice_set}
+-- Packed tables in the order in which they are set, small ones in shelves by size, and runs of them.
+use Rattle.std.specs.Prelude.{◌≡◌, ℕ, ◌+◌, ◌-◌, ◌<◌, ◌≤◌, Bool, true, List, [], ◌∷◌, ◌++◌, length}
+use Rattle.std.specs.Prelude.{map, take, drop, slice_index_or, slice_set}
 use Rattle.ds_base.specs.Values.{AreKnown, Row}
 use Rattle.ds_cover.specs.Cover.{values_at}
 use Rattle.ds_cover.specs.Packed.{packed_value}
 use Rattle.ds_cover.specs.Bank.{Driven, driven_at}
 use Rattle.ds_cover.specs.Ternary.{IsWordOf}
-use Rattle.ds_cover.specs.Small.{IsFolded, StandsFor, WordsFor, nine_of, paired, small_five}
-use Rattle.ds_cover.specs.Small.{small_four, small_six, small_three, small_two, worded_three}
-use Rattle.ds_cover.specs.Small.{worded_two}
+use Rattle.ds_cover.specs.Small.{IsShelved, IsWordShelved, Shelved, StandsFor, WordsFor, no_shelf}
+use Rattle.ds_cover.specs.Small.{part_of}
 use Rattle.ds_cover.specs.declared.entry.Quick.{Quick}
 use Rattle.ds_cover.specs.declared.lists.Lists.{Lists}
 use Rattle.ds_cover.specs.declared.mask.Mask.{Mask}
@@ -16,12 +15,6 @@ use Rattle.ds_cover.specs.declared.run.TableKind.{TableKind}
 use Rattle.ds_cover.specs.declared.run.TableKind.TheVariants.{Twos, Threes, Fours, Fives}
 use Rattle.ds_cover.specs.declared.run.TableKind.TheVariants.{Sixes, Others}
 use Rattle.ds_cover.specs.declared.run.Run.{Run}
-use Rattle.ds_cover.specs.declared.nine.Nine.{Nine}
-use Rattle.ds_cover.specs.declared.small.Two.{Two}
-use Rattle.ds_cover.specs.declared.small.Three.{Three}
-use Rattle.ds_cover.specs.declared.small.Four.{Four}
-use Rattle.ds_cover.specs.declared.wide.Five.{Five}
-use Rattle.ds_cover.specs.declared.wide.Six.{Six}
 
 -- packed tables by their numbers, and the order in which they are set
 pub record Ordered : Type 0 where
@@ -45,31 +38,23 @@ FindsKnown (table ∷ tables) nets =
     AreKnown (values_at nets table.cover.inputs)
     × FindsKnown tables (slice_set nets table.output (packed_value table.cover nets))
 
--- the items from one place on, up to another
-abbrev pub part_of : {A : Type 0} → ℕ → ℕ → List A → List A
-part_of first end items = take (end - first) (drop first items)
+-- the shelves, from that of two inputs on
+abbrev pub shelves_of : Lists → List Shelved
+shelves_of lists =
+    lists.twos ∷ lists.threes ∷ lists.fours ∷ lists.fives ∷ lists.sixes ∷ []
 
--- the lists by kind, and what those of up to three inputs are for all values
-pub record Parts : Type 0 where
-  pub twos : List Two
-  pub nines : List Nine
-  pub threes : List Three
-  pub three_words : List ℕ
-  pub fours : List Four
-  pub fives : List Five
-  pub sixes : List Six
+-- how many inputs the tables of a kind have; those of more than six have no shelf
+abbrev pub width_of : TableKind → ℕ
+width_of Twos = 2
+width_of Threes = 3
+width_of Fours = 4
+width_of Fives = 5
+width_of Sixes = 6
+width_of Others = 7
 
--- as they are kept
-abbrev pub parts_of_lists : Lists → Parts
-parts_of_lists lists = record {
-  twos = lists.twos.items;
-  nines = lists.nines.items;
-  threes = lists.threes.items;
-  three_words = lists.three_words.items;
-  fours = lists.fours.items;
-  fives = lists.fives.items;
-  sixes = lists.sixes.items;
-}
+-- the shelf of tables of so many
+abbrev pub shelf_at : List Shelved → ℕ → Shelved
+shelf_at shelves width = slice_index_or shelves (width - 2) no_shelf
 
 -- one for each table
 abbrev pub AreFor : {S : Type 0} → (S → Driven → Type 0) → List S → List Driven → Type 0
@@ -89,28 +74,24 @@ pub record StandsForRun {S : Type 0} (IsFor : S → Driven → Type 0) (items : 
   pub inside : run.end ≤ length items
   pub stands : AreFor IsFor (part_of run.first run.end items) (own_tables tables run)
 
--- others stand where their numbers say
-abbrev pub IsOfKind : Parts → List Driven → Run → TableKind → Type 0
-IsOfKind parts tables run Twos = StandsForRun StandsFor (map small_two parts.twos) tables run
-    × StandsForRun WordsFor (paired worded_two parts.twos parts.nines) tables run
-IsOfKind parts tables run Threes = StandsForRun StandsFor (map small_three parts.threes) tables run
-    × StandsForRun WordsFor (paired worded_three parts.threes parts.three_words) tables run
-IsOfKind parts tables run Fours = StandsForRun StandsFor (map small_four parts.fours) tables run
-IsOfKind parts tables run Fives = StandsForRun StandsFor (map small_five parts.fives) tables run
-IsOfKind parts tables run Sixes = StandsForRun StandsFor (map small_six parts.sixes) tables run
-IsOfKind parts tables run Others = run.first ≡ run.at
+-- tables of up to six inputs stand in the shelf of their size, others where their numbers say
+pub record IsOfWidth (shelf : Shelved) (tables : List Driven) (run : Run) (width : ℕ) :
+    Type 0 where
+  pub small : width ≤ 6 → StandsForRun StandsFor shelf.smalls tables run
+  pub worded : width ≤ 3 → StandsForRun WordsFor shelf.worded tables run
+  pub other : 6 < width → run.first ≡ run.at
 
 -- a run of these tables
-pub record IsRunOfTables (parts : Parts) (tables : List Driven) (run : Run) : Type 0 where
+pub record IsRunOfTables (shelves : List Shelved) (tables : List Driven) (run : Run) : Type 0 where
   pub low : run.first ≤ run.end
   pub fits : run.at + (run.end - run.first) ≤ length tables
-  pub kind : IsOfKind parts tables run run.kind
+  pub kind : IsOfWidth (shelf_at shelves (width_of run.kind)) tables run (width_of run.kind)
 
 -- one after another they are all tables from a number on
-abbrev pub AreRuns : Parts → List Driven → ℕ → List Run → Type 0
-AreRuns parts tables at [] = at ≡ length tables
-AreRuns parts tables at (run ∷ runs) = (run.at ≡ at) × IsRunOfTables parts tables run
-    × AreRuns parts tables (at + (run.end - run.first)) runs
+abbrev pub AreRuns : List Shelved → List Driven → ℕ → List Run → Type 0
+AreRuns shelves tables at [] = at ≡ length tables
+AreRuns shelves tables at (run ∷ runs) = (run.at ≡ at) × IsRunOfTables shelves tables run
+    × AreRuns shelves tables (at + (run.end - run.first)) runs
 
 -- the numbers of the tables of a run
 abbrev pub numbers_in : List ℕ → Run → List ℕ
@@ -132,94 +113,38 @@ pub data IsRunAdded (others : ℕ) (before : List Run) (run : Run) (after : List
       → last.kind ≡ run.kind → last.end ≡ run.first
       → after ≡ front ++ joined_runs last run ∷ [] → IsRunAdded others before run after
 
--- nine values for each table of two inputs, and a word for each of three
-pub record AreEven (parts : Parts) : Type 0 where
-  pub twos : length parts.nines ≡ length parts.twos
-  pub threes : length parts.three_words ≡ length parts.threes
-
 -- what is a run of some tables stays one where more tables follow
-abbrev pub StayRuns : Parts → Parts → Type 0
+abbrev pub StayRuns : List Shelved → List Shelved → Type 0
 StayRuns old new = (tables more : List Driven) (run : Run) → IsRunOfTables old tables run
     → IsRunOfTables new (tables ++ more) run
 
 -- the tables from a number on are added, in runs of their own
-pub record AreAdded (old new : Parts) (tables : List Driven) (start : ℕ) (before after : List Run) :
+pub record AreAdded (old new : List Shelved) (tables : List Driven) (start : ℕ) (before after : List Run) :
     Type 0 where
-  pub even : AreEven new
   pub stay : StayRuns old new
   pub own : List Run
   pub behind : after ≡ before ++ own
   pub runs : AreRuns new tables start own
 
--- a table is added to the list of its kind
-abbrev pub IsAddedTo : Quick → List Mask → Bool → ℕ → ℕ → Parts → Parts → ℕ → TableKind → Type 0
-IsAddedTo quick masks on inputs at before after first Twos =
-    (two : Two) × (word : ℕ) × (nine : Nine) × (quick.few ≡ true) × (inputs ≤ 2)
-    × IsFolded 2 quick (small_two two) × IsWordOf masks on word × (nine.values ≡ nine_of word)
-    × (first ≡ length before.twos)
-    × (after ≡ record {
-      twos = before.twos ++ two ∷ [];
-      nines = before.nines ++ nine ∷ [];
-      threes = before.threes;
-      three_words = before.three_words;
-      fours = before.fours;
-      fives = before.fives;
-      sixes = before.sixes;
-    })
-IsAddedTo quick masks on inputs at before after first Threes =
-    (three : Three) × (word : ℕ) × (quick.few ≡ true) × (inputs ≡ 3)
-    × IsFolded 3 quick (small_three three) × IsWordOf masks on word
-    × (first ≡ length before.threes)
-    × (after ≡ record {
-      twos = before.twos;
-      nines = before.nines;
-      threes = before.threes ++ three ∷ [];
-      three_words = before.three_words ++ word ∷ [];
-      fours = before.fours;
-      fives = before.fives;
-      sixes = before.sixes;
-    })
-IsAddedTo quick masks on inputs at before after first Fours =
-    (four : Four) × (quick.few ≡ true) × (inputs ≡ 4) × IsFolded 4 quick (small_four four)
-    × (first ≡ length before.fours)
-    × (after ≡ record {
-      twos = before.twos;
-      nines = before.nines;
-      threes = before.threes;
-      three_words = before.three_words;
-      fours = before.fours ++ four ∷ [];
-      fives = before.fives;
-      sixes = before.sixes;
-    })
-IsAddedTo quick masks on inputs at before after first Fives =
-    (five : Five) × (quick.few ≡ true) × (inputs ≡ 5) × IsFolded 5 quick (small_five five)
-    × (first ≡ length before.fives)
-    × (after ≡ record {
-      twos = before.twos;
-      nines = before.nines;
-      threes = before.threes;
-      three_words = before.three_words;
-      fours = before.fours;
-      fives = before.fives ++ five ∷ [];
-      sixes = before.sixes;
-    })
-IsAddedTo quick masks on inputs at before after first Sixes =
-    (six : Six) × (quick.few ≡ true) × (inputs ≡ 6) × IsFolded 6 quick (small_six six)
-    × (first ≡ length before.sixes)
-    × (after ≡ record {
-      twos = before.twos;
-      nines = before.nines;
-      threes = before.threes;
-      three_words = before.three_words;
-      fours = before.fours;
-      fives = before.fives;
-      sixes = before.sixes ++ six ∷ [];
-    })
-IsAddedTo quick masks on inputs at before after first Others = (first ≡ at) × (after ≡ before)
+-- so many inputs make a table of a size: one makes one of two
+abbrev pub Fits : ℕ → ℕ → Type 0
+Fits width inputs = (inputs ≤ width) × (2 < width → inputs ≡ width)
+
+-- a table is added to the shelf of its size
+pub record IsAddedTo (quick : Quick) (masks : List Mask) (on : Bool) (inputs at : ℕ)
+    (before after : List Shelved) (first width : ℕ) : Type 0 where
+  pub few : width ≤ 6 → quick.few ≡ true
+  pub fits : width ≤ 6 → Fits width inputs
+  pub small : width ≤ 6
+      → IsShelved quick width (shelf_at before width) (shelf_at after width) first
+  pub worded : width ≤ 3 → (word : ℕ) × IsWordOf masks on word
+      × IsWordShelved quick width word (shelf_at before width) (shelf_at after width) first
+  pub other : 6 < width → first ≡ at
+  pub rest : after ≡ slice_set before (width - 2) (shelf_at after width)
 
 -- and this run of one table says where it stands
 pub record IsSmallAdded (quick : Quick) (masks : List Mask) (on : Bool) (inputs at : ℕ)
-    (before after : Parts) (run : Run) : Type 0 where
+    (before after : List Shelved) (run : Run) : Type 0 where
   pub at_is : run.at ≡ at
   pub one : run.end ≡ run.first + 1
-  pub kind : IsAddedTo quick masks on inputs at before after run.first run.kind
+  pub kind : IsAddedTo quick masks on inputs at before after run.first (width_of run.kind)

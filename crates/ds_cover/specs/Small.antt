@@ -1,5 +1,7 @@
 -- Tables of up to six inputs by one word, and nets after some of them are set.
-use Rattle.std.specs.Prelude.{◌≡◌, ℕ, ◌+◌, ◌*◌, ◌-◌, ◌<◌, ◌/◌, ◌%◌, ◌^◌, List, [], ◌∷◌, All, length}
+use Rattle.std.specs.Prelude.{◌≡◌, ℕ, ◌+◌, ◌*◌, ◌-◌, ◌<◌, ◌/◌, ◌%◌, ◌^◌, ◌==◌, ◌++◌, List, [], ◌∷◌, All, length}
+use Rattle.std.specs.Prelude.{drop, if◌then◌else◌}
+use Rattle.std.specs.List.{range_with_len}
 use Rattle.std.specs.Prelude.{map, take, slice_index_or, slice_set}
 use Rattle.std.specs.Int.{bit_at}
 use Rattle.ds_base.specs.Values.{AreKnown, Row}
@@ -12,38 +14,12 @@ use Rattle.ds_cover.specs.Bank.{Driven}
 use Rattle.ds_cover.specs.Kept.{bit_value}
 use Rattle.ds_cover.specs.Ternary.{code_value}
 use Rattle.ds_cover.specs.declared.entry.Quick.{Quick}
-use Rattle.ds_cover.specs.declared.nine.Nine.{Nine}
-use Rattle.ds_cover.specs.declared.small.Two.{Two}
-use Rattle.ds_cover.specs.declared.small.Three.{Three}
-use Rattle.ds_cover.specs.declared.small.Four.{Four}
-use Rattle.ds_cover.specs.declared.wide.Five.{Five}
-use Rattle.ds_cover.specs.declared.wide.Six.{Six}
 
 -- a table by one word: its inputs, its values, and the net that it drives
 pub record Small : Type 0 where
   pub nets : List ℕ
   pub truth : ℕ
   pub output : ℕ
-
--- of one or two inputs
-abbrev pub small_two : Two → Small
-small_two t = record { nets = t.nets; truth = t.truth; output = t.output }
-
--- of three
-abbrev pub small_three : Three → Small
-small_three t = record { nets = t.nets; truth = t.truth; output = t.output }
-
--- of four
-abbrev pub small_four : Four → Small
-small_four t = record { nets = t.nets; truth = t.truth; output = t.output }
-
--- of five
-abbrev pub small_five : Five → Small
-small_five t = record { nets = t.nets; truth = t.truth; output = t.output }
-
--- of six
-abbrev pub small_six : Six → Small
-small_six t = record { nets = t.nets; truth = t.truth; output = t.output }
 
 -- the bit of the word that the values of the inputs number
 abbrev pub small_value : Small → Row → Value
@@ -77,53 +53,73 @@ pub record StandsFor (small : Small) (driven : Driven) : Type 0 where
       → small_value small nets ≡ packed_value driven.cover nets
   pub drives : small.output ≡ driven.output
 
--- the place of three values in a word of 27: `Three::worded`
-abbrev pub place_in_27 : Value → Value → Value → ℕ
-place_in_27 u v w = code_of u + 3 * code_of v + 9 * code_of w
+-- the place of some values among all rows of so many
+abbrev pub place_of : Row → ℕ
+place_of [] = 0
+place_of (value ∷ values) = code_of value + 3 * place_of values
 
 -- the value that a word of 27 has there, in two bits
 abbrev pub value_in_27 : ℕ → ℕ → Value
 value_in_27 word place = code_value (word / 2 ^ (2 * place) % 4)
 
--- the values of a word of 27 for all rows of two values, the last one repeated
-abbrev pub nine_of : ℕ → Row
-nine_of word = map (value_in_27 word) (0 ∷ 1 ∷ 2 ∷ 12 ∷ 13 ∷ 14 ∷ 24 ∷ 25 ∷ 26 ∷ [])
+-- the places of all rows of two values, the last one repeated, among those of three
+abbrev pub nine_places : List ℕ
+nine_places = 0 ∷ 1 ∷ 2 ∷ 12 ∷ 13 ∷ 14 ∷ 24 ∷ 25 ∷ 26 ∷ []
 
--- a table by what it is for the values of its inputs
+-- the values of a word of 27 for all rows of two or three values
+abbrev pub values_of_word : ℕ → ℕ → Row
+values_of_word width word =
+    map (value_in_27 word) (if width == 2 then nine_places else range_with_len 0 27)
+
+-- a table by what it is for the values of its inputs, by their places
 pub record Worded : Type 0 where
   pub small : Small
-  pub value : Row → Value
-
--- by nine values, of two inputs: `Two::worded`
-abbrev pub nine_value : Row → Row → Value
-nine_value nine [] = Zero
-nine_value nine (u ∷ []) = Zero
-nine_value nine (u ∷ v ∷ values) = slice_index_or nine (code_of u + 3 * code_of v) Zero
-
--- by a word of 27, of three
-abbrev pub word_value : ℕ → Row → Value
-word_value word [] = Zero
-word_value word (u ∷ []) = Zero
-word_value word (u ∷ v ∷ []) = Zero
-word_value word (u ∷ v ∷ w ∷ values) = value_in_27 word (place_in_27 u v w)
-
--- of one or two inputs
-abbrev pub worded_two : Two → Nine → Worded
-worded_two two nine = record { small = small_two two; value = nine_value nine.values }
-
--- of three
-abbrev pub worded_three : Three → ℕ → Worded
-worded_three three word = record { small = small_three three; value = word_value word }
+  pub values : Row
 
 -- its value
 abbrev pub worded_value : Worded → Row → Value
-worded_value worded nets = worded.value (values_at nets worded.small.nets)
+worded_value worded nets =
+    slice_index_or worded.values (place_of (values_at nets worded.small.nets)) Zero
+
+-- by small table and words
+abbrev pub worded_by : {A W : Type 0} → (A → Small) → (W → Row) → A → W → Worded
+worded_by small values table words = record { small = small table; values = values words }
+
+-- the items from one place on, up to another
+abbrev pub part_of : {A : Type 0} → ℕ → ℕ → List A → List A
+part_of first end items = take (end - first) (drop first items)
 
 -- tables with what they are for all values
 abbrev pub paired : {A W : Type 0} → (A → W → Worded) → List A → List W → List Worded
 paired worded [] words = []
 paired worded (table ∷ tables) [] = []
 paired worded (table ∷ tables) (word ∷ words) = worded table word ∷ paired worded tables words
+
+-- tables of one size, and what those of up to three inputs are for all values
+pub record Shelved : Type 0 where
+  pub smalls : List Small
+  pub worded : List Worded
+
+-- none
+abbrev pub no_shelf : Shelved
+no_shelf = record { smalls = []; worded = [] }
+
+-- the table of a word for six inputs is added to those of its size
+pub record IsShelved (quick : Quick) (width : ℕ) (before after : Shelved) (first : ℕ) :
+    Type 0 where
+  pub small : Small
+  pub folded : IsFolded width quick small
+  pub first_is : first ≡ length before.smalls
+  pub few : first < 2 ^ 63
+  pub smalls_are : after.smalls ≡ before.smalls ++ small ∷ []
+
+-- and with it what it is for all values, out of a word of 27
+pub record IsWordShelved (quick : Quick) (width word : ℕ) (before after : Shelved) (first : ℕ) :
+    Type 0 where
+  pub shelved : IsShelved quick width before after first
+  pub first_is : first ≡ length before.worded
+  pub worded_are : after.worded ≡ before.worded
+      ++ record { small = shelved.small; values = values_of_word width word } ∷ []
 
 -- the nets after such tables are set one after another
 abbrev pub after_worded : List Worded → Row → Row

@@ -35,6 +35,7 @@ mod rows;
 mod run;
 mod selections;
 mod series;
+mod shelf;
 mod small;
 mod table;
 mod ternary;

@@ -1,44 +1,40 @@
-//! The tables of up to six inputs, in lists by kind.
-ghost use Rattle.std.specs.Prelude.{◌≡◌, ◌<◌, ◌≤◌, ◌-◌, ◌^◌, ℕ, true, Bool, List, [], length};
+//! The tables of up to six inputs, in shelves by size.
+ghost use Rattle.std.specs.Prelude.{◌≡◌, ◌<◌, ◌≤◌, ◌-◌, ◌^◌, ℕ, true, Bool, List, [], ◌∷◌, length};
 ghost use Rattle.std.specs.Prelude.{IfOk};
 ghost use Rattle.ds_cover.specs.Bank.{driven_at};
-ghost use Rattle.ds_cover.specs.Series.{IsAddedTo, IsSmallAdded, parts_of_lists};
+ghost use Rattle.ds_cover.specs.Series.{IsAddedTo, IsSmallAdded, shelves_of, width_of};
+ghost use Rattle.ds_cover.specs.Small.{no_shelf};
 ghost use Rattle.ds_cover.specs.Ternary.{IsWordOf};
 ghost use Rattle.ds_cover.specs.declared.mask.Mask.{Mask};
 
 use crate::nine::Nine;
 use crate::run::{Run, TableKind};
+use crate::shelf::{Shelf, WordedShelf};
 use crate::small::{Four, Three, Two};
 use crate::wide::{Five, Six};
 use crate::{Bank, Quick};
 use std::alloc::{AllocError, Global};
 
-/// Tables of up to six inputs, in lists by kind, and beside those of up to three what they are for
-/// all values, also unknown ones.
+/// Tables of up to six inputs, in shelves by size, and beside those of up to three what they are
+/// for all values, also unknown ones.
 pub struct Lists {
     /// Of one or two inputs.
-    pub twos: Vec<Two>,
-    /// The values of these.
-    pub nines: Vec<Nine>,
+    pub twos: WordedShelf<Two, Nine>,
     /// Of three.
-    pub threes: Vec<Three>,
-    /// The words of these.
-    pub three_words: Vec<u64>,
+    pub threes: WordedShelf<Three, u64>,
     /// Of four.
-    pub fours: Vec<Four>,
+    pub fours: Shelf<Four>,
     /// Of five.
-    pub fives: Vec<Five>,
+    pub fives: Shelf<Five>,
     /// Of six.
-    pub sixes: Vec<Six>,
+    pub sixes: Shelf<Six>,
 }
 
 impl Drop for Lists {
     fn drop(self) {
         let Lists {
             twos: _,
-            nines: _,
             threes: _,
-            three_words: _,
             fours: _,
             fives: _,
             sixes: _,
@@ -49,28 +45,19 @@ impl Drop for Lists {
 impl Lists {
     // Without tables.
     pub(crate) fn new(alloc: Global) -> Self
-        ensures { parts_of_lists result ≡ record {
-          twos = [];
-          nines = [];
-          threes = [];
-          three_words = [];
-          fours = [];
-          fives = [];
-          sixes = [];
-        } }
+        ensures { shelves_of result
+            ≡ no_shelf ∷ no_shelf ∷ no_shelf ∷ no_shelf ∷ no_shelf ∷ [] }
     {
         Lists {
-            twos: Vec::new(alloc),
-            nines: Vec::new(alloc),
-            threes: Vec::new(alloc),
-            three_words: Vec::new(alloc),
-            fours: Vec::new(alloc),
-            fives: Vec::new(alloc),
-            sixes: Vec::new(alloc),
+            twos: WordedShelf::new(alloc),
+            threes: WordedShelf::new(alloc),
+            fours: Shelf::new(alloc),
+            fives: Shelf::new(alloc),
+            sixes: Shelf::new(alloc),
         }
     }
 
-    // Adds a table of a bank to the list of its kind, and says where it stands. It is the one with
+    // Adds a table of a bank to the shelf of its size, and says where it stands. It is the one with
     // this number in the order.
     pub(crate) fn add(
         &mut self,
@@ -83,7 +70,7 @@ impl Lists {
         requires at { at < 2 ^ 64 - 1 }
         ensures { IfOk result (IsSmallAdded quick.now (driven_at bank.now table).cover.masks
             (driven_at bank.now table).cover.on (length (driven_at bank.now table).cover.inputs) at
-            (parts_of_lists self.old) (parts_of_lists self.new)) }
+            (shelves_of self.old) (shelves_of self.new)) }
     {
         let (kind, first) = self.add_kind(quick, bank, table, at)?;
         Ok(Run {
@@ -94,7 +81,7 @@ impl Lists {
         })
     }
 
-    // The same, and says in which list, and at which place there.
+    // The same, and says of which kind it is, and at which place there.
     fn add_kind(
         &mut self,
         quick: &Quick,
@@ -105,7 +92,7 @@ impl Lists {
         requires { table < length bank.now }
         ensures { IfOk result (λ r. IsAddedTo quick.now (driven_at bank.now table).cover.masks
             (driven_at bank.now table).cover.on (length (driven_at bank.now table).cover.inputs) at
-            (parts_of_lists self.old) (parts_of_lists self.new) r.1 r.0) }
+            (shelves_of self.old) (shelves_of self.new) r.1 (width_of r.0)) }
     {
         if !quick.few {
             return Ok((TableKind::Others, at));
@@ -129,18 +116,12 @@ impl Lists {
         requires inputs { inputs ≤ 3 }
         ensures { IfOk result (λ r. (masks : List Mask) (on : Bool) (count at : ℕ)
             → IsWordOf masks on word → count ≡ inputs → IsAddedTo quick.now masks on count at
-            (parts_of_lists self.old) (parts_of_lists self.new) r.1 r.0) }
+            (shelves_of self.old) (shelves_of self.new) r.1 (width_of r.0)) }
     {
         if inputs == 3 {
-            let first = self.threes.len();
-            self.threes.push(Three::of(quick))?;
-            self.three_words.push(word)?;
-            return Ok((TableKind::Threes, first));
+            return Ok((TableKind::Threes, self.threes.add(quick, word)?));
         }
-        let first = self.twos.len();
-        self.twos.push(Two::of(quick))?;
-        self.nines.push(Nine::of(word))?;
-        Ok((TableKind::Twos, first))
+        Ok((TableKind::Twos, self.twos.add(quick, word)?))
     }
 
     // The same of one of more.
@@ -152,23 +133,17 @@ impl Lists {
     ) -> Result<(TableKind, usize), AllocError>
         requires { quick.now.few ≡ true }
         ensures { IfOk result (λ r. (masks : List Mask) (on : Bool) (count : ℕ)
-            → count ≡ inputs → IsAddedTo quick.now masks on count at (parts_of_lists self.old)
-            (parts_of_lists self.new) r.1 r.0) }
+            → count ≡ inputs → IsAddedTo quick.now masks on count at (shelves_of self.old)
+            (shelves_of self.new) r.1 (width_of r.0)) }
     {
         if inputs == 4 {
-            let first = self.fours.len();
-            self.fours.push(Four::of(quick))?;
-            return Ok((TableKind::Fours, first));
+            return Ok((TableKind::Fours, self.fours.add(quick)?));
         }
         if inputs == 5 {
-            let first = self.fives.len();
-            self.fives.push(Five::of(quick))?;
-            return Ok((TableKind::Fives, first));
+            return Ok((TableKind::Fives, self.fives.add(quick)?));
         }
         if inputs == 6 {
-            let first = self.sixes.len();
-            self.sixes.push(Six::of(quick))?;
-            return Ok((TableKind::Sixes, first));
+            return Ok((TableKind::Sixes, self.sixes.add(quick)?));
         }
         Ok((TableKind::Others, at))
     }

@@ -1,6 +1,6 @@
 //! The values of a table of one or two inputs for all rows of two values.
 ghost use Rattle.std.specs.Prelude.{◌≡◌, ◌<◌};
-ghost use Rattle.ds_cover.specs.Small.{nine_of, value_in_27};
+ghost use Rattle.ds_cover.specs.Small.{value_in_27, values_of_word};
 ghost use Rattle.ds_cover.specs.Ternary.{code_value};
 
 use ds_base::Value;
@@ -15,7 +15,7 @@ pub struct Nine {
 impl Nine {
     // Out of a word of 27.
     pub(crate) fn of(word: u64) -> Self
-        ensures { result.values ≡ nine_of word }
+        ensures { result.values ≡ values_of_word 2 word }
     {
         Nine {
             values: [

@@ -1,15 +1,12 @@
 //! Tables of one kind that are set one after another.
 ghost use Rattle.std.specs.Prelude.{◌≡◌, ◌+◌, ◌-◌, ◌<◌, ◌≤◌, true, All, OnOk, length};
 ghost use Rattle.ds_cover.specs.Bank.{AreNetsWithin, after_tables};
-ghost use Rattle.ds_cover.specs.Series.{AreAdded, AreEven, FindsKnown, IsRunOfTables, IsRunAdded};
+ghost use Rattle.ds_cover.specs.Series.{AreAdded, FindsKnown, IsRunOfTables, IsRunAdded};
 ghost use Rattle.ds_cover.specs.Series.{after_each, in_table_order, numbers_in, numbers_of};
-ghost use Rattle.ds_cover.specs.Series.{own_tables};
-ghost use Rattle.ds_cover.specs.Series.{parts_of_lists};
+ghost use Rattle.ds_cover.specs.Series.{own_tables, shelves_of};
 
 use crate::Bank;
 use crate::lists::Lists;
-use crate::small::{set_fours, set_threes, set_twos, set_worded_threes, set_worded_twos};
-use crate::wide::{set_fives, set_sixes};
 use ds_base::Row3;
 use std::alloc::AllocError;
 
@@ -54,8 +51,7 @@ pub(crate) fn add_from(
 ) -> Result<(), AllocError>
     requires places { All (λ k. k < length bank.now) order.now }
     requires start { start ≤ length order.now }
-    requires even { AreEven (parts_of_lists lists.old) }
-    ensures { OnOk result (AreAdded (parts_of_lists lists.old) (parts_of_lists lists.new)
+    ensures { OnOk result (AreAdded (shelves_of lists.old) (shelves_of lists.new)
         (in_table_order bank.now order.now) start runs.old.items runs.new.items) }
 {
     let others = runs.len();
@@ -112,7 +108,7 @@ pub(crate) fn set_known_runs(
     nets: &mut Row3,
 )
     requires places { All (λ k. k < length bank.now) order.now }
-    requires runs { All (IsRunOfTables (parts_of_lists lists.now)
+    requires runs { All (IsRunOfTables (shelves_of lists.now)
         (in_table_order bank.now order.now)) runs.now }
     requires within { All (λ t. AreNetsWithin t nets.old) bank.now }
     requires known { FindsKnown (in_table_order bank.now (numbers_of order.now runs.now)) nets.old }
@@ -126,25 +122,20 @@ pub(crate) fn set_known_runs(
 // Sets what the tables of a run drive, where each finds its inputs known.
 fn set_known(run: &Run, lists: &Lists, bank: &Bank, order: &[u32], nets: &mut Row3)
     requires places { All (λ k. k < length bank.now) order.now }
-    requires run { IsRunOfTables (parts_of_lists lists.now) (in_table_order bank.now order.now)
+    requires run { IsRunOfTables (shelves_of lists.now) (in_table_order bank.now order.now)
         run.now }
     requires within { All (λ t. AreNetsWithin t nets.old) bank.now }
     requires known { FindsKnown (own_tables (in_table_order bank.now order.now) run.now) nets.old }
     ensures { nets.new ≡ after_each (own_tables (in_table_order bank.now order.now) run.now)
         nets.old }
 {
-    let twos = lists.twos.as_slice();
-    let threes = lists.threes.as_slice();
-    let fours = lists.fours.as_slice();
-    let fives = lists.fives.as_slice();
-    let sixes = lists.sixes.as_slice();
     let (first, end) = (run.first, run.end);
     match run.kind {
-        TableKind::Twos => set_twos(&twos[first..end], nets),
-        TableKind::Threes => set_threes(&threes[first..end], nets),
-        TableKind::Fours => set_fours(&fours[first..end], nets),
-        TableKind::Fives => set_fives(&fives[first..end], nets),
-        TableKind::Sixes => set_sixes(&sixes[first..end], nets),
+        TableKind::Twos => lists.twos.set(first, end, nets),
+        TableKind::Threes => lists.threes.set(first, end, nets),
+        TableKind::Fours => lists.fours.set(first, end, nets),
+        TableKind::Fives => lists.fives.set(first, end, nets),
+        TableKind::Sixes => lists.sixes.set(first, end, nets),
         TableKind::Others => bank.set_all(own_order(run, order), nets),
     }
 }
@@ -152,7 +143,7 @@ fn set_known(run: &Run, lists: &Lists, bank: &Bank, order: &[u32], nets: &mut Ro
 // Sets what the tables of these runs drive, one after another.
 pub(crate) fn set_runs(runs: &[Run], lists: &Lists, bank: &Bank, order: &[u32], nets: &mut Row3)
     requires places { All (λ k. k < length bank.now) order.now }
-    requires runs { All (IsRunOfTables (parts_of_lists lists.now)
+    requires runs { All (IsRunOfTables (shelves_of lists.now)
         (in_table_order bank.now order.now)) runs.now }
     requires within { All (λ t. AreNetsWithin t nets.old) bank.now }
     ensures { nets.new ≡ after_tables bank.now nets.old (numbers_of order.now runs.now) }
@@ -165,20 +156,16 @@ pub(crate) fn set_runs(runs: &[Run], lists: &Lists, bank: &Bank, order: &[u32], 
 // Sets what the tables of a run drive.
 fn set_run(run: &Run, lists: &Lists, bank: &Bank, order: &[u32], nets: &mut Row3)
     requires places { All (λ k. k < length bank.now) order.now }
-    requires run { IsRunOfTables (parts_of_lists lists.now) (in_table_order bank.now order.now)
+    requires run { IsRunOfTables (shelves_of lists.now) (in_table_order bank.now order.now)
         run.now }
     requires within { All (λ t. AreNetsWithin t nets.old) bank.now }
     ensures { nets.new ≡ after_each (own_tables (in_table_order bank.now order.now) run.now)
         nets.old }
 {
-    let twos = lists.twos.as_slice();
-    let nines = lists.nines.as_slice();
-    let threes = lists.threes.as_slice();
-    let three_words = lists.three_words.as_slice();
     let (first, end) = (run.first, run.end);
     match run.kind {
-        TableKind::Twos => set_worded_twos(&twos[first..end], &nines[first..end], nets),
-        TableKind::Threes => set_worded_threes(&threes[first..end], &three_words[first..end], nets),
+        TableKind::Twos => lists.twos.set_worded(first, end, nets),
+        TableKind::Threes => lists.threes.set_worded(first, end, nets),
         _ => bank.set_all(own_order(run, order), nets),
     }
 }

@@ -2,8 +2,8 @@
 ghost use Rattle.std.specs.Prelude.{◌≡◌, ◌<◌, ◌≤◌, ◌^◌, [], ◌∷◌, ◌++◌, length, All, IfOk, OnOk};
 ghost use Rattle.std.specs.Prelude.{slice_index_or};
 ghost use Rattle.ds_cover.specs.Bank.{AreNetsWithin, after_tables};
-ghost use Rattle.ds_cover.specs.Series.{AreAdded, AreEven, FindsKnown, in_table_order, part_of};
-ghost use Rattle.ds_cover.specs.Series.{parts_of_lists};
+ghost use Rattle.ds_cover.specs.Series.{AreAdded, FindsKnown, in_table_order, shelves_of};
+ghost use Rattle.ds_cover.specs.Small.{part_of};
 
 use crate::Bank;
 use crate::lists::Lists;
@@ -38,7 +38,7 @@ impl<'a> Drop for Selections<'a> {
 impl<'a> Model for Selections<'a> {
     ghost use Rattle.std.specs.Prelude.{◌<◌, length, All};
     ghost use Rattle.ds_cover.specs.Selections.{AreBounded, Selected, lists_between};
-    ghost use Rattle.ds_cover.specs.Series.{in_table_order, parts_of_lists};
+    ghost use Rattle.ds_cover.specs.Series.{in_table_order, shelves_of};
 
     ghost Value = { Selected };
 
@@ -48,7 +48,7 @@ impl<'a> Model for Selections<'a> {
     } };
 
     ghost invariant = { λ s. All (λ k. k < length s.bank.now) s.order.items
-        × AreBounded (parts_of_lists s.lists) (in_table_order s.bank.now s.order.items) s.runs.items
+        × AreBounded (shelves_of s.lists) (in_table_order s.bank.now s.order.items) s.runs.items
         s.bounds.items };
 }
 
@@ -139,9 +139,8 @@ fn add_list(
 ) -> Result<(), AllocError>
     requires places { All (λ k. k < length bank.now) order.old.items }
     requires within { All (λ k. k < length bank.now) list.now }
-    requires even { AreEven (parts_of_lists kinds.old) }
     ensures ok_order { OnOk result (order.new.items ≡ order.old.items ++ list.now) }
-    ensures ok_added { OnOk result (AreAdded (parts_of_lists kinds.old) (parts_of_lists kinds.new)
+    ensures ok_added { OnOk result (AreAdded (shelves_of kinds.old) (shelves_of kinds.new)
         (in_table_order bank.now order.new.items) (length order.old.items) runs.old.items
         runs.new.items) }
 {

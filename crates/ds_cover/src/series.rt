@@ -1,7 +1,7 @@
 //! The tables of a bank in the order in which they are set, those of up to six inputs by kinds.
 ghost use Rattle.std.specs.Prelude.{◌≡◌, ◌<◌, length, All, IfErr, IfOk};
 ghost use Rattle.ds_cover.specs.Bank.{AreNetsWithin, after_tables};
-ghost use Rattle.ds_cover.specs.Series.{AreRuns, FindsKnown, in_table_order, parts_of_lists};
+ghost use Rattle.ds_cover.specs.Series.{AreRuns, FindsKnown, in_table_order, shelves_of};
 
 use crate::Bank;
 use crate::lists::Lists;
@@ -31,14 +31,14 @@ impl Drop for Series {
 
 impl Model for Series {
     ghost use Rattle.std.specs.Prelude.{◌<◌, length, All};
-    ghost use Rattle.ds_cover.specs.Series.{AreRuns, Ordered, in_table_order, parts_of_lists};
+    ghost use Rattle.ds_cover.specs.Series.{AreRuns, Ordered, in_table_order, shelves_of};
 
     ghost Value = { Ordered };
 
     ghost view = { λ s. record { tables = s.bank; order = s.order.items } };
 
     ghost invariant = { λ s. All (λ k. k < length s.bank) s.order.items
-        × AreRuns (parts_of_lists s.lists) (in_table_order s.bank s.order.items) 0 s.runs.items };
+        × AreRuns (shelves_of s.lists) (in_table_order s.bank s.order.items) 0 s.runs.items };
 }
 
 impl Series {
@@ -96,7 +96,7 @@ impl Series {
 // The lists and runs of the tables of a bank in this order.
 fn lists_of(alloc: Global, bank: &Bank, order: &[u32]) -> Result<(Lists, Vec<Run>), AllocError>
     requires { All (λ k. k < length bank.now) order.now }
-    ensures { IfOk result (λ made. AreRuns (parts_of_lists made.0)
+    ensures { IfOk result (λ made. AreRuns (shelves_of made.0)
         (in_table_order bank.now order.now) 0
         made.1.items) }
 {

@@ -1,7 +1,7 @@
 use Rattle.std.proofs.Common.{◌≡◌, ◌∙◌, ◌+◌, ◌<◌, ◌++◌, List, ℕ, ap, arith, length, length-append, subst, sym}
 use Rattle.std.specs.Prelude.{All}
 use Rattle.std.proofs.lemmas.List.Elements.{All-append}
-use Rattle.ds_cover.specs.Series.{AreAdded, in_table_order, parts_of_lists}
+use Rattle.ds_cover.specs.Series.{AreAdded, in_table_order, shelves_of}
 use Rattle.ds_cover.proofs.selections.add_list.Goals as goal
 
 pub add_from-requires-clause-places : goal.add_from-requires-clause-places
@@ -19,5 +19,5 @@ add_from-requires-clause-start c =
 pub returns-clause-ok_added : goal.returns-clause-ok_added
 returns-clause-ok_added c =
     let start : c.len-start.result ≡ length c.args.order.now.items = omega (c.len-start.ensures, c.args.order.now.ok.0, arith) in
-    subst (λ (m : ℕ). AreAdded (parts_of_lists c.args.kinds.now) (parts_of_lists c.add_from.new.lists) (in_table_order c.args.bank.now c.extend_from_slice.new.self.items) m c.args.runs.now.items c.add_from.new.runs.items) start
-    (subst (λ (ns : List ℕ). AreAdded (parts_of_lists c.args.kinds.now) (parts_of_lists c.add_from.new.lists) (in_table_order c.args.bank.now ns) c.len-start.result c.args.runs.now.items c.add_from.new.runs.items) c.as_slice.ensures.value c.in_ok-add_from.ensures)
+    subst (λ (m : ℕ). AreAdded (shelves_of c.args.kinds.now) (shelves_of c.add_from.new.lists) (in_table_order c.args.bank.now c.extend_from_slice.new.self.items) m c.args.runs.now.items c.add_from.new.runs.items) start
+    (subst (λ (ns : List ℕ). AreAdded (shelves_of c.args.kinds.now) (shelves_of c.add_from.new.lists) (in_table_order c.args.bank.now ns) c.len-start.result c.args.runs.now.items c.add_from.new.runs.items) c.as_slice.ensures.value c.in_ok-add_from.ensures)

@@ -1,23 +1,23 @@
 use Rattle.std.proofs.Common.{◌≡◌, ◌∙◌, List, ℕ, ap, sym, subst}
 use Rattle.std.specs.Prelude.{All}
 use Rattle.ds_cover.specs.Bank.{after_tables}
-use Rattle.ds_cover.specs.Series.{FindsKnown, IsRunOfTables, Ordered, in_table_order, numbers_of, parts_of_lists}
+use Rattle.ds_cover.specs.Series.{FindsKnown, IsRunOfTables, Ordered, in_table_order, numbers_of, shelves_of}
 use Rattle.ds_cover.specs.declared.run.Run.{Run}
 use Rattle.ds_cover.proofs.RemainingRuns.{runs_each, runs_numbers}
 use Rattle.ds_cover.proofs.series.Series.set_all_known.Goals as goal
 
 pub set_known_runs-requires-clause-runs : goal.set_known_runs-requires-clause-runs
 set_known_runs-requires-clause-runs c = let (_, runs) = c.self.invariant in
-    subst (λ (rs : List Run). All (IsRunOfTables (parts_of_lists c.self.inside.lists) (in_table_order c.self.inside.bank c.as_slice.result.now)) rs) (sym c.as_slice-runs.ensures.value)
-    (subst (λ (ns : List ℕ). All (IsRunOfTables (parts_of_lists c.self.inside.lists) (in_table_order c.self.inside.bank ns)) c.self.inside.runs.items) (sym c.as_slice.ensures.value)
-    (runs_each (parts_of_lists c.self.inside.lists) c.self.inside.bank c.self.inside.order.items 0 c.self.inside.runs.items runs))
+    subst (λ (rs : List Run). All (IsRunOfTables (shelves_of c.self.inside.lists) (in_table_order c.self.inside.bank c.as_slice.result.now)) rs) (sym c.as_slice-runs.ensures.value)
+    (subst (λ (ns : List ℕ). All (IsRunOfTables (shelves_of c.self.inside.lists) (in_table_order c.self.inside.bank ns)) c.self.inside.runs.items) (sym c.as_slice.ensures.value)
+    (runs_each (shelves_of c.self.inside.lists) c.self.inside.bank c.self.inside.order.items 0 c.self.inside.runs.items runs))
 
 pub set_known_runs-requires-clause-known : goal.set_known_runs-requires-clause-known
 set_known_runs-requires-clause-known c = let (_, runs) = c.self.invariant in
     let numbers : numbers_of c.as_slice.result.now c.as_slice-runs.result.now ≡ c.self.inside.order.items =
     ap (λ (ns : List ℕ). numbers_of ns c.as_slice-runs.result.now) c.as_slice.ensures.value
     ∙ (ap (numbers_of c.self.inside.order.items) c.as_slice-runs.ensures.value
-    ∙ runs_numbers (parts_of_lists c.self.inside.lists) c.self.inside.bank c.self.inside.order.items 0 c.self.inside.runs.items runs) in
+    ∙ runs_numbers (shelves_of c.self.inside.lists) c.self.inside.bank c.self.inside.order.items 0 c.self.inside.runs.items runs) in
     subst (λ (ns : List ℕ). FindsKnown (in_table_order c.self.inside.bank ns) c.args.nets.now) (sym numbers)
     (subst (λ (s : Ordered). FindsKnown (in_table_order s.tables s.order) c.args.nets.now) (sym c.self.view_is) c.requires.known)
 
@@ -26,6 +26,6 @@ returns c = let (_, runs) = c.self.invariant in
     let numbers : numbers_of c.as_slice.result.now c.as_slice-runs.result.now ≡ c.self.inside.order.items =
     ap (λ (ns : List ℕ). numbers_of ns c.as_slice-runs.result.now) c.as_slice.ensures.value
     ∙ (ap (numbers_of c.self.inside.order.items) c.as_slice-runs.ensures.value
-    ∙ runs_numbers (parts_of_lists c.self.inside.lists) c.self.inside.bank c.self.inside.order.items 0 c.self.inside.runs.items runs) in
+    ∙ runs_numbers (shelves_of c.self.inside.lists) c.self.inside.bank c.self.inside.order.items 0 c.self.inside.runs.items runs) in
     c.set_known_runs.ensures ∙ (ap (λ (ns : List ℕ). after_tables c.self.inside.bank c.args.nets.now ns) numbers
     ∙ ap (λ (s : Ordered). after_tables s.tables c.args.nets.now s.order) c.self.view_is)
