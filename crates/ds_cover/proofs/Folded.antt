@@ -16,7 +16,7 @@ use Rattle.ds_cover.specs.Bank.{Driven}
 use Rattle.ds_cover.specs.Packed.{bits_by, one_bit}
 use Rattle.ds_cover.specs.Kept.{IsQuick, bit_value, six_nets}
 use Rattle.ds_cover.specs.Small.{IsFolded, Small, StandsFor}
-use Rattle.ds_cover.specs.Series.{Fits}
+use Rattle.ds_cover.specs.Series.{FitsSize}
 use Rattle.ds_cover.specs.declared.entry.Quick.{Quick}
 use Rattle.ds_cover.proofs.Bits.{bits_by-within, one_bit-few}
 use Rattle.ds_cover.proofs.TablesByRun.{All-unmap}
@@ -149,14 +149,14 @@ each_of inputs xs x is P all = split xs (subst (All P) is all)
         let (these, this) = split ys (All-tail P y (ys ++ x ∷ []) all) in
         (All-cons P y ys (All-head P y (ys ++ x ∷ []) all) these, this)
 
-width_two : (width n : ℕ) → 2 ≤ width → Fits width n → n ≤ 2 → width ≡ 2
+width_two : (width n : ℕ) → 2 ≤ width → FitsSize width n → n ≤ 2 → width ≡ 2
 width_two width n low fits few = elim (cases_lt 2 width) [
   | inl wide ↦ absurd (let e = fits.1 wide in omega (e, wide, few, arith))
   | inr is ↦ omega (is, low, arith)
 ]
 
 pub stands_for : (quick : Quick) (t : Driven) (small : Small) (width : ℕ) → 2 ≤ width → width ≤ 6 → IsQuick quick t.cover → quick.output ≡ t.output → IsFolded width quick small
-    → Fits width (length t.cover.inputs) → StandsFor small t
+    → FitsSize width (length t.cover.inputs) → StandsFor small t
 stands_for quick t small width low most is_quick drives folded fits = by_inputs t.cover.inputs refl
   where
     six : quick.nets ≡ six_nets t.cover.inputs

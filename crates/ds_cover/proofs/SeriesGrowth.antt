@@ -7,7 +7,7 @@ use Rattle.ds_base.specs.Values.{Row}
 use Rattle.ds_cover.specs.Bank.{Driven}
 use Rattle.ds_cover.specs.Kept.{IsQuick}
 use Rattle.ds_cover.specs.Small.{IsFolded, IsWordShelved, Shelved, Small, StandsFor, Worded, WordsFor, no_shelf, paired, part_of, values_of_word, worded_by}
-use Rattle.ds_cover.specs.Series.{AreFor, AreRuns, IsAddedTo, IsOfWidth, StandsForRun, IsRunOfTables, IsSmallAdded, joined_runs, own_tables, shelf_at, width_of}
+use Rattle.ds_cover.specs.Series.{AreFor, AreRuns, IsAddedTo, IsOfWidth, StandsForRun, IsRunOfTables, IsSmallAdded, joined_runs, own_tables, shelf_at, size_of_kind}
 use Rattle.ds_cover.specs.Ternary.{IsWordOf}
 use Rattle.ds_cover.specs.declared.entry.Quick.{Quick}
 use Rattle.ds_cover.specs.declared.run.TableKind.{TableKind}
@@ -116,7 +116,7 @@ grows_none old new width is = record {
 abbrev pub AllGrow : List Shelved → List Shelved → Type 0
 AllGrow old new = (width : ℕ) → 2 ≤ width → width ≤ 6 → Grows (shelf_at old width) (shelf_at new width) width
 
-width_low : (kind : TableKind) → 2 ≤ width_of kind
+width_low : (kind : TableKind) → 2 ≤ size_of_kind kind
 width_low Twos = omega arith
 width_low Threes = omega arith
 width_low Fours = omega arith
@@ -144,7 +144,7 @@ module _ (old new : List Shelved) (grow : AllGrow old new) (tables others : List
   run_stays run is =
       let fits = is.fits in
       let l : length (tables ++ others) ≡ length tables + length others = length-append tables others in
-      record { low = is.low; fits = omega arith; kind = width_stays run is.low is.fits (width_of run.kind) (width_low run.kind) is.kind }
+      record { low = is.low; fits = omega arith; kind = width_stays run is.low is.fits (size_of_kind run.kind) (width_low run.kind) is.kind }
 
 -- what is added stands for the table
 module _ (quick : Quick) (old new : List Shelved) (tables : List Driven) (t : Driven) (run : Run)
@@ -182,7 +182,7 @@ module _ (quick : Quick) (old new : List Shelved) (tables : List Driven) (t : Dr
       let one = added.one in
       let at = added.at_is in
       let l = longer in
-      record { low = omega arith; fits = omega arith; kind = width_one (width_of run.kind) (width_low run.kind) added.kind }
+      record { low = omega arith; fits = omega arith; kind = width_one (size_of_kind run.kind) (width_low run.kind) added.kind }
 
   module _ (last : Run) (meets : last.end ≡ run.first) (whole : last.at + (last.end - last.first) ≡ length tables) (is_run : IsRunOfTables old tables last) where
     width_more : (width : ℕ) → 2 ≤ width → IsAdded' width → IsOfWidth (shelf_at old width) tables last width → IsOfWidth (shelf_at new width) (tables ++ t ∷ []) (joined_runs last run) width
@@ -206,7 +206,7 @@ module _ (quick : Quick) (old new : List Shelved) (tables : List Driven) (t : Dr
         record {
           low = omega arith;
           fits = omega arith;
-          kind = width_more (width_of last.kind) (width_low last.kind) (subst (λ (k : TableKind). IsAdded' (width_of k)) (sym kind) added.kind) is_run.kind;
+          kind = width_more (size_of_kind last.kind) (width_low last.kind) (subst (λ (k : TableKind). IsAdded' (size_of_kind k)) (sym kind) added.kind) is_run.kind;
         }
 
   own_grows : (width : ℕ) → IsAdded' width → width ≤ 6 → Grows (shelf_at old width) (shelf_at new width) width
@@ -219,13 +219,13 @@ module _ (quick : Quick) (old new : List Shelved) (tables : List Driven) (t : Dr
       }
 
   pub grows : AllGrow old new
-  grows width two six = elim (cases_eq width (width_of run.kind)) [
+  grows width two six = elim (cases_eq width (size_of_kind run.kind)) [
     | inl e ↦ own_grows width (subst IsAdded' (sym e) added.kind) six
     | inr ne ↦
         (let low = width_low run.kind in
-        let other : width - 2 ≢ width_of run.kind - 2 = λ same. ne (omega (same, two, low, arith)) in
+        let other : width - 2 ≢ size_of_kind run.kind - 2 = λ same. ne (omega (same, two, low, arith)) in
         grows_none (shelf_at old width) (shelf_at new width) width
-        (ap (λ (ss : List Shelved). shelf_at ss width) added.kind.rest ∙ get_or-set_other old (width_of run.kind - 2) (width - 2) (shelf_at new (width_of run.kind)) no_shelf other))
+        (ap (λ (ss : List Shelved). shelf_at ss width) added.kind.rest ∙ get_or-set_other old (size_of_kind run.kind - 2) (width - 2) (shelf_at new (size_of_kind run.kind)) no_shelf other))
   ]
 
   pub runs_alone : (at : ℕ) (runs : List Run) → AreRuns old tables at runs → AreRuns new (tables ++ t ∷ []) at (runs ++ run ∷ [])

@@ -11,7 +11,7 @@ use Rattle.ds_cover.specs.Bank.{Driven}
 use Rattle.ds_cover.specs.Packed.{masks_value, packed_value, words_of_values}
 use Rattle.ds_cover.specs.Kept.{IsSingle, singles_value}
 use Rattle.ds_cover.specs.Ternary.{IsWordOf, code_value, three_at}
-use Rattle.ds_cover.specs.Small.{Small, Worded, after_worded, paired, place_of, value_in_27, values_of_word, worded_value}
+use Rattle.ds_cover.specs.Small.{Small, Worded, after_worded, paired, ternary_place, value_in_27, values_of_word, worded_value}
 use Rattle.std.proofs.lemmas.List.FromFn.{get_or-map-range_with_len}
 use Rattle.ds_base.specs.Word.{code_of}
 use Rattle.ds_cover.proofs.SmallTableWords.{singles_are}
@@ -21,24 +21,24 @@ code_is Zero = refl
 code_is One = refl
 code_is Unknown = refl
 
-pub three_low : (u v w : Value) → place_of (u ∷ v ∷ w ∷ []) < 27
+pub three_low : (u v w : Value) → ternary_place (u ∷ v ∷ w ∷ []) < 27
 three_low u v w = (let a = code_of-few u in let b = code_of-few v in let c = code_of-few w in omega arith)
 
-pub three_is : (u v w : Value) → three_at (place_of (u ∷ v ∷ w ∷ [])) ≡ u ∷ v ∷ w ∷ []
+pub three_is : (u v w : Value) → three_at (ternary_place (u ∷ v ∷ w ∷ [])) ≡ u ∷ v ∷ w ∷ []
 three_is u v w =
-    let place : ℕ = place_of (u ∷ v ∷ w ∷ []) in
+    let place : ℕ = ternary_place (u ∷ v ∷ w ∷ []) in
     let a = code_of-few u in
     let b = code_of-few v in
     let c = code_of-few w in
-    let first : place_of (u ∷ v ∷ w ∷ []) % 3 ≡ code_of u = omega (a, b, c, arith) in
-    let next : place_of (u ∷ v ∷ w ∷ []) / 3 % 3 ≡ code_of v = omega (a, b, c, arith) in
-    let last : place_of (u ∷ v ∷ w ∷ []) / 9 ≡ code_of w = omega (a, b, c, arith) in
+    let first : ternary_place (u ∷ v ∷ w ∷ []) % 3 ≡ code_of u = omega (a, b, c, arith) in
+    let next : ternary_place (u ∷ v ∷ w ∷ []) / 3 % 3 ≡ code_of v = omega (a, b, c, arith) in
+    let last : ternary_place (u ∷ v ∷ w ∷ []) / 9 ≡ code_of w = omega (a, b, c, arith) in
     ap (λ (x : Value). x ∷ code_value (place / 3 % 3) ∷ code_value (place / 9) ∷ []) (ap code_value first ∙ code_is u)
     ∙ (ap (λ (x : Value). u ∷ x ∷ code_value (place / 9) ∷ []) (ap code_value next ∙ code_is v)
     ∙ ap (λ (x : Value). u ∷ v ∷ x ∷ []) (ap code_value last ∙ code_is w))
 
 -- the values for two inputs are those for three, the last one repeated
-pub nine_is : (word : ℕ) (u v : Value) → get_or (values_of_word 2 word) (place_of (u ∷ v ∷ [])) Zero ≡ value_in_27 word (place_of (u ∷ v ∷ v ∷ []))
+pub nine_is : (word : ℕ) (u v : Value) → get_or (values_of_word 2 word) (ternary_place (u ∷ v ∷ [])) Zero ≡ value_in_27 word (ternary_place (u ∷ v ∷ v ∷ []))
 nine_is word Zero Zero = refl
 nine_is word Zero One = refl
 nine_is word Zero Unknown = refl
@@ -50,8 +50,8 @@ nine_is word Unknown One = refl
 nine_is word Unknown Unknown = refl
 
 -- those for three stand at their places
-pub three_of : (word : ℕ) (u v w : Value) → get_or (values_of_word 3 word) (place_of (u ∷ v ∷ w ∷ [])) Zero ≡ value_in_27 word (place_of (u ∷ v ∷ w ∷ []))
-three_of word u v w = get_or-map-range_with_len (value_in_27 word) 0 27 (place_of (u ∷ v ∷ w ∷ [])) (place_of (u ∷ v ∷ w ∷ [])) Zero (three_low u v w) (omega arith)
+pub three_of : (word : ℕ) (u v w : Value) → get_or (values_of_word 3 word) (ternary_place (u ∷ v ∷ w ∷ [])) Zero ≡ value_in_27 word (ternary_place (u ∷ v ∷ w ∷ []))
+three_of word u v w = get_or-map-range_with_len (value_in_27 word) 0 27 (ternary_place (u ∷ v ∷ w ∷ [])) (ternary_place (u ∷ v ∷ w ∷ [])) Zero (three_low u v w) (omega arith)
 
 -- the word of a table, where the values of its nets stand at a place, and begin with those of its inputs
 pub word_for : (t : Driven) (word : ℕ) (nets : Row) (place : ℕ) (values : Row) → IsWordOf t.cover.masks t.cover.on word → All IsSingle t.cover.masks
@@ -83,12 +83,12 @@ pub worded_at : (word : ℕ) (small : Small) (nets : Row) (result : Value) (a b 
 worded_at word small nets result a b c i j k d e f three i-is j-is k-is a-is b-is c-is is =
     is ∙ placed small.nets three i-is j-is k-is
   where
-    placed : (ids : List ℕ) → length ids ≡ 3 → i ≡ get_or ids 0 d → j ≡ get_or ids 1 e → k ≡ get_or ids 2 f → value_in_27 word (a + 3 * b + 9 * c) ≡ get_or (values_of_word 3 word) (place_of (values_at nets ids)) Zero
+    placed : (ids : List ℕ) → length ids ≡ 3 → i ≡ get_or ids 0 d → j ≡ get_or ids 1 e → k ≡ get_or ids 2 f → value_in_27 word (a + 3 * b + 9 * c) ≡ get_or (values_of_word 3 word) (ternary_place (values_at nets ids)) Zero
     placed [] size x y z = absurd (omega arith)
     placed (p ∷ []) size x y z = absurd (omega arith)
     placed (p ∷ q ∷ []) size x y z = absurd (omega arith)
     placed (p ∷ q ∷ r ∷ []) size x y z =
-        let at : a + 3 * b + 9 * c ≡ place_of (value_at nets p ∷ value_at nets q ∷ value_at nets r ∷ []) =
+        let at : a + 3 * b + 9 * c ≡ ternary_place (value_at nets p ∷ value_at nets q ∷ value_at nets r ∷ []) =
         omega (a-is ∙ ap (λ (n : ℕ). code_of (value_at nets n)) x, b-is ∙ ap (λ (n : ℕ). code_of (value_at nets n)) y, c-is ∙ ap (λ (n : ℕ). code_of (value_at nets n)) z, arith) in
         ap (value_in_27 word) at ∙ sym (three_of word (value_at nets p) (value_at nets q) (value_at nets r))
     placed (p ∷ q ∷ r ∷ s ∷ ids) size x y z = absurd (omega arith)

@@ -1,4 +1,5 @@
--- Packed tables in the order in which they are set, small ones in shelves by size, and runs of them.
+-- Packed tables in the order in which they are set, small ones in shelves by size, and runs of
+-- them.
 use Rattle.std.specs.Prelude.{◌≡◌, ℕ, ◌+◌, ◌-◌, ◌<◌, ◌≤◌, Bool, true, List, [], ◌∷◌, ◌++◌, length}
 use Rattle.std.specs.Prelude.{map, take, drop, slice_index_or, slice_set}
 use Rattle.ds_base.specs.Values.{AreKnown, Row}
@@ -44,13 +45,13 @@ shelves_of lists =
     lists.twos ∷ lists.threes ∷ lists.fours ∷ lists.fives ∷ lists.sixes ∷ []
 
 -- how many inputs the tables of a kind have; those of more than six have no shelf
-abbrev pub width_of : TableKind → ℕ
-width_of Twos = 2
-width_of Threes = 3
-width_of Fours = 4
-width_of Fives = 5
-width_of Sixes = 6
-width_of Others = 7
+abbrev pub size_of_kind : TableKind → ℕ
+size_of_kind Twos = 2
+size_of_kind Threes = 3
+size_of_kind Fours = 4
+size_of_kind Fives = 5
+size_of_kind Sixes = 6
+size_of_kind Others = 7
 
 -- the shelf of tables of so many
 abbrev pub shelf_at : List Shelved → ℕ → Shelved
@@ -85,7 +86,7 @@ pub record IsOfWidth (shelf : Shelved) (tables : List Driven) (run : Run) (width
 pub record IsRunOfTables (shelves : List Shelved) (tables : List Driven) (run : Run) : Type 0 where
   pub low : run.first ≤ run.end
   pub fits : run.at + (run.end - run.first) ≤ length tables
-  pub kind : IsOfWidth (shelf_at shelves (width_of run.kind)) tables run (width_of run.kind)
+  pub kind : IsOfWidth (shelf_at shelves (size_of_kind run.kind)) tables run (size_of_kind run.kind)
 
 -- one after another they are all tables from a number on
 abbrev pub AreRuns : List Shelved → List Driven → ℕ → List Run → Type 0
@@ -119,7 +120,8 @@ StayRuns old new = (tables more : List Driven) (run : Run) → IsRunOfTables old
     → IsRunOfTables new (tables ++ more) run
 
 -- the tables from a number on are added, in runs of their own
-pub record AreAdded (old new : List Shelved) (tables : List Driven) (start : ℕ) (before after : List Run) :
+pub record AreAdded (old new : List Shelved) (tables : List Driven) (start : ℕ)
+    (before after : List Run) :
     Type 0 where
   pub stay : StayRuns old new
   pub own : List Run
@@ -127,14 +129,14 @@ pub record AreAdded (old new : List Shelved) (tables : List Driven) (start : ℕ
   pub runs : AreRuns new tables start own
 
 -- so many inputs make a table of a size: one makes one of two
-abbrev pub Fits : ℕ → ℕ → Type 0
-Fits width inputs = (inputs ≤ width) × (2 < width → inputs ≡ width)
+abbrev pub FitsSize : ℕ → ℕ → Type 0
+FitsSize width inputs = (inputs ≤ width) × (2 < width → inputs ≡ width)
 
 -- a table is added to the shelf of its size
 pub record IsAddedTo (quick : Quick) (masks : List Mask) (on : Bool) (inputs at : ℕ)
     (before after : List Shelved) (first width : ℕ) : Type 0 where
   pub few : width ≤ 6 → quick.few ≡ true
-  pub fits : width ≤ 6 → Fits width inputs
+  pub fits : width ≤ 6 → FitsSize width inputs
   pub small : width ≤ 6
       → IsShelved quick width (shelf_at before width) (shelf_at after width) first
   pub worded : width ≤ 3 → (word : ℕ) × IsWordOf masks on word
@@ -147,4 +149,4 @@ pub record IsSmallAdded (quick : Quick) (masks : List Mask) (on : Bool) (inputs 
     (before after : List Shelved) (run : Run) : Type 0 where
   pub at_is : run.at ≡ at
   pub one : run.end ≡ run.first + 1
-  pub kind : IsAddedTo quick masks on inputs at before after run.first (width_of run.kind)
+  pub kind : IsAddedTo quick masks on inputs at before after run.first (size_of_kind run.kind)

@@ -1,5 +1,6 @@
 -- Tables of up to six inputs by one word, and nets after some of them are set.
-use Rattle.std.specs.Prelude.{◌≡◌, ℕ, ◌+◌, ◌*◌, ◌-◌, ◌<◌, ◌/◌, ◌%◌, ◌^◌, ◌==◌, ◌++◌, List, [], ◌∷◌, All, length}
+use Rattle.std.specs.Prelude.{◌≡◌, ℕ, ◌+◌, ◌*◌, ◌-◌, ◌<◌, ◌/◌, ◌%◌, ◌^◌, ◌==◌, ◌++◌, List, []}
+use Rattle.std.specs.Prelude.{◌∷◌, All, length}
 use Rattle.std.specs.Prelude.{drop, if◌then◌else◌}
 use Rattle.std.specs.List.{range_with_len}
 use Rattle.std.specs.Prelude.{map, take, slice_index_or, slice_set}
@@ -54,9 +55,9 @@ pub record StandsFor (small : Small) (driven : Driven) : Type 0 where
   pub drives : small.output ≡ driven.output
 
 -- the place of some values among all rows of so many
-abbrev pub place_of : Row → ℕ
-place_of [] = 0
-place_of (value ∷ values) = code_of value + 3 * place_of values
+abbrev pub ternary_place : Row → ℕ
+ternary_place [] = 0
+ternary_place (value ∷ values) = code_of value + 3 * ternary_place values
 
 -- the value that a word of 27 has there, in two bits
 abbrev pub value_in_27 : ℕ → ℕ → Value
@@ -79,7 +80,7 @@ pub record Worded : Type 0 where
 -- its value
 abbrev pub worded_value : Worded → Row → Value
 worded_value worded nets =
-    slice_index_or worded.values (place_of (values_at nets worded.small.nets)) Zero
+    slice_index_or worded.values (ternary_place (values_at nets worded.small.nets)) Zero
 
 -- by small table and words
 abbrev pub worded_by : {A W : Type 0} → (A → Small) → (W → Row) → A → W → Worded

@@ -2,7 +2,7 @@
 ghost use Rattle.std.specs.Prelude.{◌≡◌, ◌<◌, ◌≤◌, ◌-◌, ◌^◌, ℕ, true, Bool, List, [], ◌∷◌, length};
 ghost use Rattle.std.specs.Prelude.{IfOk};
 ghost use Rattle.ds_cover.specs.Bank.{driven_at};
-ghost use Rattle.ds_cover.specs.Series.{IsAddedTo, IsSmallAdded, shelves_of, width_of};
+ghost use Rattle.ds_cover.specs.Series.{IsAddedTo, IsSmallAdded, shelves_of, size_of_kind};
 ghost use Rattle.ds_cover.specs.Small.{no_shelf};
 ghost use Rattle.ds_cover.specs.Ternary.{IsWordOf};
 ghost use Rattle.ds_cover.specs.declared.mask.Mask.{Mask};
@@ -92,7 +92,7 @@ impl Lists {
         requires { table < length bank.now }
         ensures { IfOk result (λ r. IsAddedTo quick.now (driven_at bank.now table).cover.masks
             (driven_at bank.now table).cover.on (length (driven_at bank.now table).cover.inputs) at
-            (shelves_of self.old) (shelves_of self.new) r.1 (width_of r.0)) }
+            (shelves_of self.old) (shelves_of self.new) r.1 (size_of_kind r.0)) }
     {
         if !quick.few {
             return Ok((TableKind::Others, at));
@@ -116,7 +116,7 @@ impl Lists {
         requires inputs { inputs ≤ 3 }
         ensures { IfOk result (λ r. (masks : List Mask) (on : Bool) (count at : ℕ)
             → IsWordOf masks on word → count ≡ inputs → IsAddedTo quick.now masks on count at
-            (shelves_of self.old) (shelves_of self.new) r.1 (width_of r.0)) }
+            (shelves_of self.old) (shelves_of self.new) r.1 (size_of_kind r.0)) }
     {
         if inputs == 3 {
             return Ok((TableKind::Threes, self.threes.add(quick, word)?));
@@ -134,7 +134,7 @@ impl Lists {
         requires { quick.now.few ≡ true }
         ensures { IfOk result (λ r. (masks : List Mask) (on : Bool) (count : ℕ)
             → count ≡ inputs → IsAddedTo quick.now masks on count at (shelves_of self.old)
-            (shelves_of self.new) r.1 (width_of r.0)) }
+            (shelves_of self.new) r.1 (size_of_kind r.0)) }
     {
         if inputs == 4 {
             return Ok((TableKind::Fours, self.fours.add(quick)?));

@@ -20,7 +20,7 @@ use Rattle.ds_lines.specs.Names.{has_name}
 use Rattle.ds_lines.specs.Print.{HasNo, IsPlain, line_text, numbered_lines}
 use Rattle.ds_lines.specs.declared.at.At.{At}
 use Rattle.ds_lines.proofs.JoinedLines.{split-append}
-use Rattle.ds_lines.proofs.Lacks.{lacks_both, lacks_parts, number_without}
+use Rattle.ds_lines.proofs.ByteClasses.{lacks_both, lacks_parts, number_without}
 use Rattle.ds_lines.proofs.PrintedLines.{hash_line_text, line_first, newline_line_text, split_plain, words_of-line_text}
 use Rattle.ds_groups.specs.Laws.{AreAll, ClustersAreRead}
 use Rattle.ds_groups.specs.Match.{has_form}

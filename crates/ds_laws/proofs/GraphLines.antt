@@ -6,8 +6,8 @@ use Rattle.std.specs.Option.{option_map_or}
 use Rattle.std.proofs.lemmas.Bool.{cases_Bool}
 use Rattle.std.proofs.lemmas.Option.{slice_get-get_or}
 use Rattle.ds_lines.specs.Print.{HasNo, IsPlain, IsWord}
-use Rattle.ds_lines.proofs.Lacks.{without_both}
-use Rattle.ds_lines.proofs.Uncut.{AreClean, IsClean, IsUncut, clean_line, clean_number, clean_word, is_cut, plain_line}
+use Rattle.ds_lines.proofs.ByteClasses.{without_both}
+use Rattle.ds_lines.proofs.UncutWords.{AreClean, IsClean, IsUncut, clean_line, clean_number, clean_word, is_cut, plain_line}
 use Rattle.ds_marked.specs.Graph.{Graph, IsKept}
 use Rattle.ds_marked.specs.Log.{event_text, text_of_event}
 use Rattle.ds_marked.specs.declared.marked.Event.{Event}

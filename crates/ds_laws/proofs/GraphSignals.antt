@@ -7,8 +7,8 @@ use Rattle.std.proofs.lemmas.List.Concat.{flat_map-append}
 use Rattle.std.proofs.lemmas.List.Elements.{All-from_recursion}
 use Rattle.ds_lines.specs.Line.{lines_of}
 use Rattle.ds_lines.specs.Print.{HasNo}
-use Rattle.ds_lines.proofs.Lacks.{lacks_at, lacks_cons, lacks_less, neither, number_without, some_bytes}
-use Rattle.ds_lines.proofs.Uncut.{AreClean, IsClean, is_cut}
+use Rattle.ds_lines.proofs.ByteClasses.{lacks_at, lacks_cons, lacks_less, neither, number_without, some_bytes}
+use Rattle.ds_lines.proofs.UncutWords.{AreClean, IsClean, is_cut}
 use Rattle.ds_marked.specs.Graph.{Graph, IsKept}
 use Rattle.ds_marked.specs.Log.{event_text}
 use Rattle.ds_marked.specs.declared.marked.Event.{Event}

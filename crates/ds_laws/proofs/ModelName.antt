@@ -39,9 +39,9 @@ use Rattle.ds_stage.proofs.LineWords.{HaveWords, both_all, lines_have_words}
 use Rattle.ds_stage.proofs.FileMeaning.{read_meant}
 use Rattle.std.proofs.lemmas.List.Sums.{prefix_len_stops}
 use Rattle.std.proofs.lemmas.List.{get_or-reverse, get_or-take, length-reverse, length-take-le}
-use Rattle.ds_lines.proofs.Lacks.{neither}
+use Rattle.ds_lines.proofs.ByteClasses.{neither}
 use Rattle.ds_laws.proofs.PlainNames.{if_next, unless_holds}
-use Rattle.ds_lines.proofs.Uncut.{EndsUncut, IsUncut, uncut_behind}
+use Rattle.ds_lines.proofs.UncutWords.{EndsUncut, IsUncut, uncut_behind}
 
 -- the last of some words is not cut with a word before it
 ends_behind : (word : List ℕ) (words : List (List ℕ)) → EndsUncut words → EndsUncut (word ∷ words)

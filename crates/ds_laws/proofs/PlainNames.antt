@@ -15,7 +15,7 @@ use Rattle.ds_outside.specs.Held.{Held, untold, absent, bytes}
 use Rattle.ds_lines.specs.First.{unless_fault}
 use Rattle.ds_lines.specs.Line.{Line}
 use Rattle.ds_lines.specs.Print.{is_apart, IsWord}
-use Rattle.ds_lines.proofs.Lacks.{lacks_both, lacks_drop, number_without, some_bytes, without_both}
+use Rattle.ds_lines.proofs.ByteClasses.{lacks_both, lacks_drop, number_without, some_bytes, without_both}
 use Rattle.ds_lines.specs.Words.{word_at}
 use Rattle.ds_lines.specs.declared.at.At.{At}
 use Rattle.ds_design.specs.Circuit.{Circuit, register_nets}

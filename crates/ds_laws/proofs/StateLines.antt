@@ -6,8 +6,8 @@ use Rattle.ds_base.specs.Values.{Row}
 use Rattle.ds_design.specs.Trace.{values_text}
 use Rattle.ds_lines.specs.Line.{is_some}
 use Rattle.ds_lines.specs.Print.{is_apart, IsPlain, IsWord, line_text, text_of}
-use Rattle.ds_lines.proofs.Lacks.{lacks_both}
-use Rattle.ds_lines.proofs.Uncut.{IsClean, clean_line, clean_number, clean_uncut, clean_word, plain_line}
+use Rattle.ds_lines.proofs.ByteClasses.{lacks_both}
+use Rattle.ds_lines.proofs.UncutWords.{IsClean, clean_line, clean_number, clean_uncut, clean_word, plain_line}
 use Rattle.ds_latch.specs.Plan.{Planned}
 use Rattle.ds_rows.specs.Log.{stored_text}
 use Rattle.ds_rows.specs.Nets.{register_of}

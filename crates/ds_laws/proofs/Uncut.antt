@@ -6,8 +6,8 @@ use Rattle.std.proofs.lemmas.Bool.{cases_Bool, eqb-true}
 use Rattle.std.proofs.lemmas.List.Elements.{recursion_from_All}
 use Rattle.ds_lines.specs.Line.{is_backslash, is_blank}
 use Rattle.ds_lines.specs.Print.{is_apart, IsPlain, IsWord}
-use Rattle.ds_lines.proofs.Lacks.{lacks_parts, no_blank}
-use Rattle.ds_lines.proofs.Uncut.{EndsUncut, IsUncut, both_false, plain_line}
+use Rattle.ds_lines.proofs.ByteClasses.{lacks_parts, no_blank}
+use Rattle.ds_lines.proofs.UncutWords.{EndsUncut, IsUncut, both_false, plain_line}
 use Rattle.ds_laws.specs.Grouping.{EndsInBackslash}
 
 -- a word that does not end in a `\`

@@ -10,8 +10,8 @@ use Rattle.ds_lines.specs.Line.{is_joined, joins, words_in, words_of, is_blank, 
 use Rattle.ds_lines.specs.Line.{is_hash, is_backslash, is_end}
 use Rattle.ds_lines.specs.Print.{is_apart, line_text, text_of, numbered_lines, HasNo, IsWord}
 use Rattle.ds_lines.specs.Print.{IsPlain}
-use Rattle.ds_lines.proofs.Lacks.{lacks_both, lacks_cons, lacks_less, lacks_parts, no_blank}
-use Rattle.ds_lines.proofs.Lacks.{no_hash, no_newline}
+use Rattle.ds_lines.proofs.ByteClasses.{lacks_both, lacks_cons, lacks_less, lacks_parts, no_blank}
+use Rattle.ds_lines.proofs.ByteClasses.{no_hash, no_newline}
 use Rattle.ds_lines.proofs.JoinedLines.{split-append, words_of-joined}
 
 pub split_plain : (p : ℕ → Bool) (bytes : List ℕ) → HasNo p bytes → slice_split p bytes

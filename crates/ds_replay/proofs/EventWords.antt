@@ -13,7 +13,7 @@ use Rattle.ds_latch.specs.declared.node.Node.{Node}
 use Rattle.ds_latch.specs.declared.node.Node.TheVariants.{In, Out, Master, Slave}
 use Rattle.ds_latch.specs.Plan.{node_events, node_name, split_events}
 use Rattle.ds_lines.specs.Print.{is_apart, HasNo, IsWord}
-use Rattle.ds_lines.proofs.Lacks.{number_without, without_both}
+use Rattle.ds_lines.proofs.ByteClasses.{number_without, without_both}
 use Rattle.ds_replay.specs.Legal.{EndsInSign}
 use Rattle.ds_replay.specs.Printed.{HasOwnWords}
 use Rattle.ds_replay.proofs.LogLines.{own_texts}

@@ -14,7 +14,7 @@ use Rattle.ds_design.specs.Trace.{IsTrace, end_line, trace_line, values_text}
 use Rattle.ds_lines.specs.Line.{Line, lines_of}
 use Rattle.ds_lines.specs.Print.{IsPlain, IsWord, line_text, numbered_lines, text_of}
 use Rattle.ds_lines.proofs.PrintedLines.{lines_of-text_of}
-use Rattle.ds_lines.proofs.Uncut.{IsClean, clean_line, clean_number, clean_uncut, clean_word, plain_line}
+use Rattle.ds_lines.proofs.UncutWords.{IsClean, clean_line, clean_number, clean_uncut, clean_word, plain_line}
 use Rattle.ds_rows.proofs.PrintedRows.{clean_values}
 use Rattle.ds_marked.specs.Graph.{Graph, IsLegal, IsLegalFrom, counted}
 use Rattle.ds_marked.specs.Log.{event_text, IsLegalLogFrom, IsLog, IsLogFrom}

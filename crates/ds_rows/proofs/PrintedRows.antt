@@ -12,9 +12,9 @@ use Rattle.ds_design.specs.Rows.{AreVectors, Rows}
 use Rattle.ds_design.specs.Trace.{value_text, values_text}
 use Rattle.ds_lines.specs.Line.{lines_of}
 use Rattle.ds_lines.specs.Print.{HasNo, IsPlain, numbered_lines, text_of}
-use Rattle.ds_lines.proofs.Lacks.{lacks_cons}
+use Rattle.ds_lines.proofs.ByteClasses.{lacks_cons}
 use Rattle.ds_lines.proofs.PrintedLines.{lines_of-text_of}
-use Rattle.ds_lines.proofs.Uncut.{IsClean, clean_line, is_cut}
+use Rattle.ds_lines.proofs.UncutWords.{IsClean, clean_line, is_cut}
 use Rattle.ds_rows.specs.Print.{row_words}
 use Rattle.ds_rows.specs.Vector.{fault_of_vector, first_vector_fault, has_bits, has_width, is_bit, row_of, rows_of_lines, value_of_character, vectors_of}
 use Rattle.ds_rows.proofs.RowText.{value_chars}

@@ -4,7 +4,7 @@ use Rattle.std.specs.List.{slice_split, onto_first, filter, before_first, positi
 use Rattle.std.proofs.lemmas.Bool.{cases_Bool}
 use Rattle.ds_lines.specs.Line.{Line, line_of, lines_from, lines_of, uncommented, trimmed, kept_len, joins, words_in, is_blank, is_some, is_newline, is_hash}
 use Rattle.ds_lines.specs.Print.{HasNo, IsWord}
-use Rattle.ds_lines.proofs.Lacks.{lacks_either, lacks_parts, lacks_take}
+use Rattle.ds_lines.proofs.ByteClasses.{lacks_either, lacks_parts, lacks_take}
 
 -- before the first that passes
 lacks_before : (p : ℕ → Bool) (bytes : List ℕ) → HasNo p (before_first p bytes)

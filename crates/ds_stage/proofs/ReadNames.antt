@@ -11,7 +11,7 @@ use Rattle.ds_lines.specs.First.{unless_fault, behind_line}
 use Rattle.ds_lines.specs.Words.{word_at}
 use Rattle.ds_lines.specs.Line.{Line}
 use Rattle.ds_lines.specs.Print.{is_apart, IsWord}
-use Rattle.ds_lines.proofs.Lacks.{without_both}
+use Rattle.ds_lines.proofs.ByteClasses.{without_both}
 use Rattle.ds_marked.specs.Graph.{Graph}
 use Rattle.ds_marked.specs.declared.marked.Event.{Event}
 use Rattle.ds_marked.specs.declared.marked.Kind.TheVariants.{Rise, Fall, Dummy as DummyKind}

@@ -18,7 +18,7 @@ use Rattle.ds_text_laws.specs.AstgText.{IsReadable, lists_below, entry_words}
 use Rattle.ds_astg.specs.declared.fault.AstgKind.{AstgKind}
 use Rattle.ds_astg.specs.declared.fault.AstgKind.TheVariants.{Instance, BadWord, UnknownSignal}
 use Rattle.ds_text_laws.proofs.Names.{key_at, plain, texts_read}
-use Rattle.ds_lines.proofs.Lacks.{lacks_both, number_without}
+use Rattle.ds_lines.proofs.ByteClasses.{lacks_both, number_without}
 use Rattle.ds_text_laws.proofs.Entries.{tokens_are_read, ends_are_read}
 use Rattle.ds_text_laws.proofs.Built.{Built, number_is, stands_there, built_set}
 use Rattle.ds_text_laws.proofs.EventLines.{no_tokens, all_of-append}

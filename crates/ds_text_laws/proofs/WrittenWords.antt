@@ -21,7 +21,7 @@ use Rattle.ds_astg.specs.Text.{place_name}
 use Rattle.ds_text_laws.specs.AstgLaws.{EventsAreRead, PlacesAreRead}
 use Rattle.ds_astg.specs.declared.role.Role.{Role}
 use Rattle.ds_astg.specs.declared.role.Role.TheVariants.{Signal, Dummy}
-use Rattle.ds_lines.proofs.Lacks.{lacks_both, lacks_cons, number_without}
+use Rattle.ds_lines.proofs.ByteClasses.{lacks_both, lacks_cons, number_without}
 use Rattle.ds_astg.proofs.DeclaredNames.{count_cons}
 
 -- the last byte, and what stands before it

@@ -6,7 +6,7 @@ use Rattle.std.specs.List.{AllByRecursion, suffix_len}
 use Rattle.std.proofs.lemmas.List.Sums.{suffix_len_is}
 use Rattle.ds_lines.specs.Line.{is_backslash, is_blank, is_end}
 use Rattle.ds_lines.specs.Print.{is_apart, IsPlain, IsSomeWithout, IsWord, line_text}
-use Rattle.ds_lines.proofs.Lacks.{lacks_parts, neither, no_blank, number_without, without_less}
+use Rattle.ds_lines.proofs.ByteClasses.{lacks_parts, neither, no_blank, number_without, without_less}
 
 -- a text whose last byte is not cut at the end of a line
 abbrev pub IsUncut : List ℕ → Type 0
