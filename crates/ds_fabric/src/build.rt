@@ -105,9 +105,8 @@ pub fn histories<V: RunValues>(
     ensures { IfOk result (AreUnfired run.now) }
 {
     let step = step_of(run);
-    let Some(words) = (run.limit() as usize).checked_mul(step) else {
-        return Err(OutOfMemory);
-    };
+    // More words than 64 bits count are no memory.
+    let words = (run.limit() as usize).saturating_mul(step);
     let together = Vec::with_capacity(alloc, words)?;
     let nodes = blank_nodes(alloc, run, step)?;
     let places = numbered(alloc, run.nodes())?;
