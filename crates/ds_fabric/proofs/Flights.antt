@@ -194,7 +194,7 @@ enabled_by run at v l h run_is node on =
 pub can_note : (run : Run) (v : View) (s : Histories) (b : Buffers) (at : ℕ) (h : History)
     (role : EventRole) → IsSound run → IsArmed run v s at h
     → b.told.items ≡ new_row run h.node h.fired → HasSameRoom s.buffers b
-    → IsNextRole run h role → HasRoomToNote run (record s { buffers = b }) at role
+    → IsNextRole run h.node h.fired role → HasRoomToNote run (record s { buffers = b }) at role
 can_note run v s b at h role sound a told room next-is =
     let l : ℕ = h.node in let f : ℕ = h.fired in let r = a.room in
     let place = told_place run (tickets v) l f in
@@ -224,5 +224,4 @@ can_note run v s b at h role sound a told room next-is =
       };
       fits = omega (arith, place.1, long, offset, r.stride);
       room = r.room;
-      buffer = omega (arith, place.1, long, room.told, r.buffers.told);
     }

@@ -44,10 +44,11 @@ pub record IsWritten (old new : List ℕ) (start end : ℕ) (told : List ℕ) : 
   pub behind : (p : ℕ) → start + length told ≤ p → p < length old
       → slice_index new p ≡ slice_index old p
 
--- the list in which the words of the history stand, and how many words it has room for
+-- the list in which the words of the history stand
 abbrev pub list_of_words : Histories → History → List ℕ
 list_of_words s h = cond s.apart h.own.items s.together.items
 
+-- how many words that list has room for
 abbrev pub list_room : Histories → History → ℕ
 list_room s h = cond s.apart (vec_capacity h.own) (vec_capacity s.together)
 
@@ -59,10 +60,11 @@ next_turn_of run h = turns run (next run h.node h.fired) h.fired
 abbrev pub offset_of : Run → History → ℕ
 offset_of run h = cond (opens run (next run h.node h.fired)) 0 (h.stride - 1)
 
--- where in the list they begin, and where the turn ends
+-- where in the list they begin
 abbrev pub start_of_words : Run → History → ℕ
 start_of_words run h = next_turn_of run h * h.step + h.first + offset_of run h
 
+-- where in the list the turn of that event ends
 abbrev pub end_of_turn : Run → History → ℕ
 end_of_turn run h = (next_turn_of run h + 1) * h.step
 

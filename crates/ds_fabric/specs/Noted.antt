@@ -4,7 +4,7 @@ use Rattle.std.specs.Prelude.{vec_capacity}
 use Rattle.std.specs.Prelude.{slice_set}
 use mathlib.Core.Option.{some}
 use lib.ListN.{get_elem?}
-use Rattle.ds_rule.specs.Run.{Run, next, opens, IsEnabledInRun}
+use Rattle.ds_rule.specs.Run.{Run, next, opens, turns, IsEnabledInRun}
 use Rattle.ds_rule.specs.Rule.{holds, seen}
 use Rattle.ds_rule.specs.declared.view.View.{View}
 use Rattle.ds_rule.specs.Event.{fired_of, is_opening}
@@ -12,14 +12,14 @@ use Rattle.ds_rule.specs.declared.event_role.EventRole.{EventRole}
 use Rattle.ds_fabric.specs.declared.history.History.{History}
 use Rattle.ds_fabric.specs.declared.histories.Histories.{Histories}
 use Rattle.ds_fabric.specs.Flight.{HasRoomToFire}
-use Rattle.ds_fabric.specs.HistoryList.{IsWritten, list_of_words, list_room, next_turn_of}
+use Rattle.ds_fabric.specs.HistoryList.{IsWritten, list_of_words, list_room}
 use Rattle.ds_fabric.specs.HistoryList.{offset_of}
 use Rattle.ds_fabric.specs.HistoryList.{start_of_words, end_of_turn, new_row}
 
--- the role is that of the next event of the history's node
-pub record IsNextRole (run : Run) (h : History) (role : EventRole) : Type 0 where
-  pub turns_is : fired_of role h.fired ≡ next_turn_of run h
-  pub opens_is : opens run (next run h.node h.fired) ≡ is_opening role
+-- the role is that of the next event of the node, which has fired so often
+pub record IsNextRole (run : Run) (node fired : ℕ) (role : EventRole) : Type 0 where
+  pub turns_is : fired_of role fired ≡ turns run (next run node fired) fired
+  pub opens_is : opens run (next run node fired) ≡ is_opening role
 
 -- the node has words in each turn of its list, and the places up to the end of the next turn are
 -- numbers of 64 bits
@@ -28,16 +28,15 @@ pub record HasSpan (run : Run) (h : History) : Type 0 where
   pub inside : h.first + h.stride ≤ h.step
   pub small : end_of_turn run h < 18446744073709551616
 
--- there is room for what the next event tells, whose role this is, in the list and in its buffer
+-- there is room in the list for what the next event tells, whose role this is
 pub record HasRoomToNote (run : Run) (s : Histories) (at : ℕ) (role : EventRole) : Type 0 where
   pub history : History
   pub there : get_elem? s.nodes.items at ≡ some history
-  pub role_is : IsNextRole run history role
+  pub role_is : IsNextRole run history.node history.fired role
   pub few : history.fired + 1 < 18446744073709551616
   pub span : HasSpan run history
   pub fits : offset_of run history + (vec_len s.buffers.told + 1) ≤ history.stride
   pub room : end_of_turn run history ≤ list_room s history
-  pub buffer : vec_len s.buffers.told < vec_capacity s.buffers.told
 
 -- the history has one firing more, and the words that its event told stand in its list
 pub record HasNotedWords (run : Run) (s t : Histories) (g h : History) (told : List ℕ)

@@ -13,6 +13,7 @@ pub record IsWide (limit : ℕ) (h : History) : Type 0 where
   pub inside : h.first + h.stride ≤ h.step
   pub small : limit * h.stride < 18446744073709551616
 
+-- so it is of each history
 abbrev pub AreWide : ℕ → Histories → Type 0
 AreWide limit s = (i : ℕ) (h : History) → get_elem? s.nodes.items i ≡ some h → IsWide limit h
 

@@ -15,7 +15,7 @@ ghost use Rattle.ds_fabric.specs.HistoryList.{new_row};
 ghost use Rattle.ds_fabric.specs.Noted.{HasFired};
 ghost use Rattle.ds_fabric.specs.Into.{AreInto};
 ghost use Rattle.ds_fabric.specs.Indexed.{IsHistoryAt};
-ghost use Rattle.ds_fabric.specs.Noted.{IsArmed};
+ghost use Rattle.ds_fabric.specs.Noted.{IsArmed, IsNextRole};
 ghost use Rattle.ds_fabric.specs.Showing.{IsPass};
 ghost use Rattle.ds_fabric.specs.Stepped.{FiresWith, Stepped};
 ghost use Rattle.ds_fabric.specs.declared.history.History.{History};
@@ -25,8 +25,8 @@ use crate::buffers::Buffers;
 use crate::compute::Compute;
 use crate::context::Context;
 use crate::counts::survey;
+use crate::due_event::DueEvent;
 use crate::histories::Histories;
-use crate::history::History;
 use crate::learnt::Learnt;
 use crate::opening_in_flight::OpeningInFlight;
 use crate::rows::{read_rows, write_row};
@@ -138,12 +138,17 @@ fn fire<V: RunValues, C: Compute>(
     ensures remembers { Remembers (C.memory context.now.openings.now) scratch.new }
 {
     let history = &histories.nodes[at];
-    depart(context, seat, history);
-    prepare(context, seat, history, &mut histories.buffers, scratch);
-    let ticket = publish(context, seat, history);
-    let nodes = context.run.design_nodes();
-    let event = NodeEvent::next(history.node, history.fired, nodes);
-    histories.note(at, event.role, ticket);
+    let (node, fired) = (history.node, history.fired);
+    let event = NodeEvent::next(node, fired, context.run.design_nodes());
+    let due = DueEvent {
+        node,
+        fired,
+        role: event.role,
+    };
+    depart(context, seat, due);
+    prepare(context, seat, due, &mut histories.buffers, scratch);
+    let ticket = publish(context, seat, due);
+    histories.note(at, due.role, ticket);
     ticket
 }
 
@@ -151,37 +156,37 @@ fn fire<V: RunValues, C: Compute>(
 fn depart<V: RunValues, C: Compute>(
     context: &Context<V, C>,
     seat: &mut Seat<u8, View>,
-    history: &History,
+    due: DueEvent,
 )
     requires table { seat.old.table_id ≡ context.now.board.now.table_id }
     requires idle { (seat.old.me.0.live ≡ true) × (seat.old.me.0.phase ≡ 0)
         × (seat.old.me.0.run ≡ context.now.run.now) }
-    requires held { (holds seat.old.me.0 history.now.node ≡ true)
-        × (history.now.node < context.now.run.now.nodes)
-        × (history.now.fired ≡ seen seat.old.me.0 history.now.node) }
+    requires held { (holds seat.old.me.0 due.node ≡ true)
+        × (due.node < context.now.run.now.nodes)
+        × (due.fired ≡ seen seat.old.me.0 due.node) }
     requires ready { IsEnabledInRun context.now.run.now (seen seat.old.me.0)
-        (next context.now.run.now history.now.node history.now.fired) }
+        (next context.now.run.now due.node due.fired) }
 
     ensures table { (seat.new.table_id ≡ seat.old.table_id) × (seat.new.id ≡ seat.old.id) }
-    ensures me { seat.new.me ≡ (after_depart seat.old.me.0 history.now.node, seat.old.me.1) }
-    ensures flight { IsInFlight context.now.run.now seat.new.me.0 history.now.node
-        history.now.fired }
+    ensures me { seat.new.me ≡ (after_depart seat.old.me.0 due.node, seat.old.me.1) }
+    ensures flight { IsInFlight context.now.run.now seat.new.me.0 due.node
+        due.fired }
     ensures unwritten { seat.new.me.0.written ≡ 0 }
 {
-    context.board.load::<Depart>(seat, history.node + 1);
+    context.board.load::<Depart>(seat, due.node + 1);
 }
 
 // Draws the ticket of what is in flight, and publishes the count of its node.
 fn publish<V: RunValues, C: Compute>(
     context: &Context<V, C>,
     seat: &mut Seat<u8, View>,
-    history: &History,
+    due: DueEvent,
 ) -> u64
     requires table { seat.old.table_id ≡ context.now.board.now.table_id }
-    requires flight { IsInFlight context.now.run.now seat.old.me.0 history.now.node
-        history.now.fired }
-    requires written { HasWritten context.now.run.now seat.old.me.0 history.now.node
-        history.now.fired }
+    requires flight { IsInFlight context.now.run.now seat.old.me.0 due.node
+        due.fired }
+    requires written { HasWritten context.now.run.now seat.old.me.0 due.node
+        due.fired }
 
     ensures table { (seat.new.table_id ≡ seat.old.table_id) × (seat.new.id ≡ seat.old.id) }
     ensures me { seat.new.me
@@ -191,7 +196,7 @@ fn publish<V: RunValues, C: Compute>(
     let ticket = context.board.fetch_add::<Draw>(seat, 0, 1);
     context
         .board
-        .store::<Publish>(seat, history.node + 1, history.fired + 1);
+        .store::<Publish>(seat, due.node + 1, due.fired + 1);
     ticket
 }
 
@@ -199,33 +204,34 @@ fn publish<V: RunValues, C: Compute>(
 fn prepare<V: RunValues, C: Compute>(
     context: &Context<V, C>,
     seat: &mut Seat<u8, View>,
-    history: &History,
+    due: DueEvent,
     buffers: &mut Buffers,
     scratch: &mut Scratch,
 )
     requires table { seat.old.table_id ≡ context.now.board.now.table_id }
     requires remembers { Remembers (C.memory context.now.openings.now) scratch.old }
-    requires flight { IsInFlight context.now.run.now seat.old.me.0 history.now.node
-        history.now.fired }
+    requires flight { IsInFlight context.now.run.now seat.old.me.0 due.node
+        due.fired }
     requires unwritten { seat.old.me.0.written ≡ 0 }
-    requires room { HasRoomFor context.now.run.now history.now.node buffers.old }
+    requires role { IsNextRole context.now.run.now due.node due.fired due.role }
+    requires room { HasRoomFor context.now.run.now due.node buffers.old }
 
     ensures seat { (seat.new.table_id ≡ seat.old.table_id) × (seat.new.id ≡ seat.old.id) }
     ensures me { (n : ℕ) × (seat.new.me ≡ (record seat.old.me.0 { written = n }, seat.old.me.1)) }
-    ensures flight { IsInFlight context.now.run.now seat.new.me.0 history.now.node
-        history.now.fired }
-    ensures written { HasWritten context.now.run.now seat.new.me.0 history.now.node
-        history.now.fired }
+    ensures flight { IsInFlight context.now.run.now seat.new.me.0 due.node
+        due.fired }
+    ensures written { HasWritten context.now.run.now seat.new.me.0 due.node
+        due.fired }
     ensures told { buffers.new.told.items
-        ≡ new_row context.now.run.now history.now.node history.now.fired }
+        ≡ new_row context.now.run.now due.node due.fired }
     ensures room { HasSameRoom buffers.old buffers.new }
     ensures remembers { Remembers (C.memory context.now.openings.now) scratch.new }
 {
     buffers.told.clear();
-    if context.run.opens_next(history.node, history.fired) {
+    if due.role.opens() {
         let opening = OpeningInFlight {
-            node: history.node,
-            turn: EventRole::Opening.turns(history.fired) + 1,
+            node: due.node,
+            turn: EventRole::Opening.turns(due.fired) + 1,
         };
         open_row(context, seat, opening, buffers, scratch);
     }

@@ -1,6 +1,6 @@
 //! The histories of a pass, and the lists in which their words stand.
 ghost use Rattle.std.specs.Prelude.{◌≡◌, ◌<◌, ◌≤◌, ◌+◌, ℕ, true, false, cond, length, IfOk, OnErr};
-ghost use Rattle.std.specs.Prelude.{OnOk, vec_len, vec_capacity};
+ghost use Rattle.std.specs.Prelude.{OnOk, vec_len, vec_capacity, ◌++◌, ◌∷◌, []};
 ghost use Rattle.ds_rule.specs.Run.{Run};
 ghost use Rattle.ds_fabric.specs.HistoryList.{IsWritten, list_of_words};
 ghost use Rattle.ds_fabric.specs.Indexed.{IsIndexed};
@@ -56,15 +56,14 @@ impl Histories {
         ensures { (run : Run) → HasRoomToNote run self.old at role
             → HasNoted run self.old self.new at ticket }
     {
-        self.buffers.told.push_reserved(ticket);
         let told = self.buffers.told.as_slice();
         let history = &mut self.nodes[at];
         let (start, end) = history.span(role);
         history.fired += 1;
         if self.apart {
-            write_at(&mut history.own, start, end, told);
+            write_at(&mut history.own, start, end, told, ticket);
         } else {
-            write_at(&mut self.together, start, end, told);
+            write_at(&mut self.together, start, end, told, ticket);
         }
     }
 
@@ -167,17 +166,21 @@ fn own_words(
     Ok(own)
 }
 
-// Writes words from a place on into a list, which has then at least `end` words.
-fn write_at(words: &mut Vec<u64>, start: usize, end: usize, told: &[u64])
-    requires inside { start + length told.now ≤ end }
+// Writes words from a place on into a list, and behind them the ticket. The list has then at least
+// `end` words.
+fn write_at(words: &mut Vec<u64>, start: usize, end: usize, told: &[u64], ticket: u64)
+    requires inside { start + length told.now < end }
     requires room { end ≤ vec_capacity words.old }
-    ensures written { IsWritten words.old.items words.new.items start end told.now }
+    ensures written { IsWritten words.old.items words.new.items start end
+        (told.now ++ ticket ∷ []) }
     ensures room { vec_capacity words.new ≡ vec_capacity words.old }
 {
     for place in words.len()..end {
         words.push_reserved(0);
     }
+    let list = words.as_mut_slice();
     for i in 0..told.len() {
-        words[start + i] = told[i];
+        list[start + i] = told[i];
     }
+    list[start + told.len()] = ticket;
 }

@@ -49,14 +49,14 @@ impl History {
     /// Where in its list the words of the node's next event begin, whose role this is, and where
     /// the turn ends.
     pub fn span(&self, role: EventRole) -> (usize, usize)
-        requires { (run : Run) × IsNextRole run self.now role × HasSpan run self.now }
-        ensures { (run : Run) → IsNextRole run self.now role
+        requires { (run : Run) × IsNextRole run self.now.node self.now.fired role × HasSpan run self.now }
+        ensures { (run : Run) → IsNextRole run self.now.node self.now.fired role
             → (result.0 ≡ start_of_words run self.now) × (result.1 ≡ end_of_turn run self.now) }
     {
         let turn = role.turns(self.fired) as usize;
         let offset = if role.opens() { 0 } else { self.stride - 1 };
-        let start = turn * self.step + self.first + offset;
-        (start, (turn + 1) * self.step)
+        let begin = turn * self.step;
+        (begin + self.first + offset, begin + self.step)
     }
 }
 

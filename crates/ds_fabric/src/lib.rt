@@ -18,6 +18,7 @@ mod chain;
 mod compute;
 mod context;
 mod counts;
+mod due_event;
 mod fabric;
 mod fire_due;
 mod flight;

@@ -11,7 +11,7 @@ use Rattle.ds_fabric.proofs.flight.depart.Goals as goal
 
 pub load-requires : goal.load-requires
 load-requires g c = let (live, at_rest, _) = c.requires.idle in let q = c.args.context.now.built.over in let run : Run = c.args.context.now.run.now in
-    let n : ℕ = c.args.context.now.board.now.table_id.slots in let l : ℕ = c.args.history.now.node in
+    let n : ℕ = c.args.context.now.board.now.table_id.slots in let l : ℕ = c.args.due.node in
     let h = c.requires.held in
     let P : Run → Type 0 = λ r. Allows (Lawful r) n c.args.seat.now.id c.args.seat.now.me (l + 1)
     (λ y. y) (departed (step n (l + 1) 0 0 none) c.args.seat.now.me) in (
@@ -34,13 +34,13 @@ left l m m' is = is ∙ ap (λ (x : ℕ). (after_depart m.0 x, m.1)) (same l)
 
 pub returns-clause-me : goal.returns-clause-me
 returns-clause-me g c = let (_, _, me) = c.load.ensures in
-    left c.args.history.now.node c.args.seat.now.me c.load.new.seat.me me
+    left c.args.due.node c.args.seat.now.me c.load.new.seat.me me
 
 pub returns-clause-flight : goal.returns-clause-flight
 returns-clause-flight g c = let (live, _, run_is) = c.requires.idle in let (_, near, count) = c.requires.held in
-    let (_, _, me) = c.load.ensures in let l : ℕ = c.args.history.now.node in
+    let (_, _, me) = c.load.ensures in let l : ℕ = c.args.due.node in
     let m : Sat = c.args.seat.now.me in let run : Run = c.args.context.now.run.now in
-    subst (λ (x : Sat). IsInFlight run x.0 l c.args.history.now.fired)
+    subst (λ (x : Sat). IsInFlight run x.0 l c.args.due.fired)
     (sym (left l m c.load.new.seat.me me)) (record {
       live = live;
       phase = refl;
@@ -53,4 +53,4 @@ returns-clause-flight g c = let (live, _, run_is) = c.requires.idle in let (_, n
 
 pub returns-clause-unwritten : goal.returns-clause-unwritten
 returns-clause-unwritten g c = let (_, _, me) = c.load.ensures in ap (λ (x : Sat). x.0.written)
-    (left c.args.history.now.node c.args.seat.now.me c.load.new.seat.me me)
+    (left c.args.due.node c.args.seat.now.me c.load.new.seat.me me)

@@ -53,7 +53,7 @@ pub note-requires-clause-room : goal.note-requires-clause-room
 note-requires-clause-room g c = let run : Run = c.args.context.now.run.now in
     let h : History = c.index-history.result.now in
     let a = ready g (goal.at.note-requires-clause-room g c).After-index-history in
-    let e = c.next-event.ensures run c.design_nodes-nodes.ensures in (
+    let e = c.next-event.ensures run c.design_nodes.ensures in (
       run,
       can_note run c.args.seat.now.me.0 c.args.histories.now c.prepare.new.buffers c.args.at h
           c.next-event.result.role c.args.context.now.built.over.sound a c.prepare.ensures.told
@@ -84,7 +84,7 @@ pub returns-clause-noted : goal.returns-clause-noted
 returns-clause-noted g c h at = let a = (goal.at.returns-clause-noted g c).After-index-history in
     let run : Run = c.args.context.now.run.now in let i : History = c.index-history.result.now in
     let same : i ≡ h = same_at c.args.histories.now.nodes.items c.args.at i h (ready g a).there at in
-    let e = c.next-event.ensures run c.design_nodes-nodes.ensures in
+    let e = c.next-event.ensures run c.design_nodes.ensures in
     let t : HasTold run (record c.args.histories.now { buffers = c.prepare.new.buffers })
     c.note.new.self c.args.at (c.prepare.new.buffers.told.items ++ c.publish-ticket.result ∷ []) =
     c.note.ensures run (can_note run c.args.seat.now.me.0 c.args.histories.now

@@ -22,10 +22,10 @@ turn : (run : Run) (l f t : ℕ) → t ≡ (f + 1) / 2 → opens run (next run l
 turn run l f t is h = omega (arith, opened-low run l f (even_opens run l f h).0)
 
 pub open_row-requires-clause-flight : goal.open_row-requires-clause-flight
-open_row-requires-clause-flight g c = let (to, _) = c.if-opens_next.ensures in let run : Run = c.args.context.now.run.now in
-    let v : View = c.args.seat.now.me.0 in let l : ℕ = c.args.history.now.node in
+open_row-requires-clause-flight g c = let opens_is = c.requires.role.opens_is in let run : Run = c.args.context.now.run.now in
+    let v : View = c.args.seat.now.me.0 in let l : ℕ = c.args.due.node in
     let q = c.requires.flight in
-    let fired = q.count in let h = to refl in (
+    let fired = q.count in let h = opens_is ∙ sym c.if-opens.ensures in (
       record {
         live = q.live;
         phase = q.phase;
@@ -33,7 +33,7 @@ open_row-requires-clause-flight g c = let (to, _) = c.if-opens_next.ensures in l
         near = q.near;
         begins = ap (λ (x : ℕ). opens run (next run x (seen v x))) q.node_is
             ∙ (ap (λ (f : ℕ). opens run (next run l f)) (sym fired) ∙ h);
-        number = turn run l c.args.history.now.fired c.turns.result c.turns.ensures h
+        number = turn run l c.args.due.fired c.turns.result c.turns.ensures h
             ∙ ap (λ (f : ℕ). opened run l f + 1) fired;
       },
       record {
@@ -46,9 +46,9 @@ open_row-requires-clause-flight g c = let (to, _) = c.if-opens_next.ensures in l
     )
 
 pub open_row-requires-clause-within : goal.open_row-requires-clause-within
-open_row-requires-clause-within g c = let (to, _) = c.if-opens_next.ensures in
-    let w = within c.args.context.now.run.now c.args.seat.now.me.0 c.args.history.now.node c.args.history.now.fired
-    c.requires.flight.count (to refl) c.requires.flight.enabled in
+open_row-requires-clause-within g c = let opens_is = c.requires.role.opens_is in
+    let w = within c.args.context.now.run.now c.args.seat.now.me.0 c.args.due.node c.args.due.fired
+    c.requires.flight.count (opens_is ∙ sym c.if-opens.ensures) c.requires.flight.enabled in
     (w.0, omega (arith, c.turns.ensures, w.1))
 
 pub open_row-requires-clause-room : goal.open_row-requires-clause-room
@@ -57,31 +57,31 @@ open_row-requires-clause-room g c = record {
   told = omega (arith, c.clear.ensures.capacity, c.requires.room.told);
 }
 
-pub returns-then-opens_next-clause-told : goal.returns-then-opens_next-clause-told
-returns-then-opens_next-clause-told g c = let (to, _) = c.if-opens_next.ensures in
+pub returns-then-opens-clause-told : goal.returns-then-opens-clause-told
+returns-then-opens-clause-told g c = let opens_is = c.requires.role.opens_is in
     let run : Run = c.args.context.now.run.now in
-    let l : ℕ = c.args.history.now.node in let f : ℕ = c.args.history.now.fired in let h = to refl in
+    let l : ℕ = c.args.due.node in let f : ℕ = c.args.due.fired in let h = opens_is ∙ sym c.if-opens.ensures in
     c.open_row.ensures.told ∙ (ap (row run l) (turn run l f c.turns.result c.turns.ensures h)
     ∙ sym (new_row-opens run l f h))
 
-pub returns-then-opens_next-clause-me : goal.returns-then-opens_next-clause-me
-returns-then-opens_next-clause-me g c = (
-  width c.args.context.now.run.now c.args.history.now.node,
+pub returns-then-opens-clause-me : goal.returns-then-opens-clause-me
+returns-then-opens-clause-me g c = (
+  width c.args.context.now.run.now c.args.due.node,
   c.open_row.ensures.me,
 )
 
-pub returns-then-opens_next-clause-flight : goal.returns-then-opens_next-clause-flight
-returns-then-opens_next-clause-flight g c = let run : Run = c.args.context.now.run.now in
-    let l : ℕ = c.args.history.now.node in let f : ℕ = c.args.history.now.fired in
+pub returns-then-opens-clause-flight : goal.returns-then-opens-clause-flight
+returns-then-opens-clause-flight g c = let run : Run = c.args.context.now.run.now in
+    let l : ℕ = c.args.due.node in let f : ℕ = c.args.due.fired in
     subst (λ (x : Sat). IsInFlight run x.0 l f) (sym c.open_row.ensures.me)
     (still_flies run c.args.seat.now.me.0 l l f f (width run l) c.requires.flight refl refl)
 
-pub returns-then-opens_next-clause-written : goal.returns-then-opens_next-clause-written
-returns-then-opens_next-clause-written g c = λ _.
+pub returns-then-opens-clause-written : goal.returns-then-opens-clause-written
+returns-then-opens-clause-written g c = λ _.
     omega (arith, ap (λ (x : Sat). x.0.written) c.open_row.ensures.me)
 
-pub returns-else-opens_next-clause-me : goal.returns-else-opens_next-clause-me
-returns-else-opens_next-clause-me g c = (
+pub returns-else-opens-clause-me : goal.returns-else-opens-clause-me
+returns-else-opens-clause-me g c = (
   0,
   ap (λ (w : ℕ). (
     record c.args.seat.now.me.0 { written = w },
@@ -89,13 +89,13 @@ returns-else-opens_next-clause-me g c = (
   )) c.requires.unwritten,
 )
 
-pub returns-else-opens_next-clause-written : goal.returns-else-opens_next-clause-written
-returns-else-opens_next-clause-written g c = let (_, from) = c.if-opens_next.ensures in
-    λ h. absurd (false≢true (from h))
+pub returns-else-opens-clause-written : goal.returns-else-opens-clause-written
+returns-else-opens-clause-written g c = let opens_is = c.requires.role.opens_is in
+    λ h. absurd (false≢true (c.if-opens.ensures ∙ (sym opens_is ∙ h)))
 
-pub returns-else-opens_next-clause-told : goal.returns-else-opens_next-clause-told
-returns-else-opens_next-clause-told g c = let (_, from) = c.if-opens_next.ensures in
+pub returns-else-opens-clause-told : goal.returns-else-opens-clause-told
+returns-else-opens-clause-told g c = let opens_is = c.requires.role.opens_is in
     let run : Run = c.args.context.now.run.now in
-    let l : ℕ = c.args.history.now.node in let f : ℕ = c.args.history.now.fired in
+    let l : ℕ = c.args.due.node in let f : ℕ = c.args.due.fired in
     c.clear.ensures.items ∙ by_bool ([] ≡ new_row run l f) (opens run (next run l f))
-    (λ h. absurd (false≢true (from h))) (λ h. sym (new_row-else run l f h))
+    (λ h. absurd (false≢true (c.if-opens.ensures ∙ (sym opens_is ∙ h)))) (λ h. sym (new_row-else run l f h))

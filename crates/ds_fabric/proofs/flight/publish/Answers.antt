@@ -20,23 +20,23 @@ fetch_add-ticket-requires g c = let q = c.args.context.now.built.over in
       subst P (sym q.keyed) (draws run n id m c.requires.flight.live c.requires.flight.phase),
     )
 
-pub overflow_add-history : goal.overflow_add-history
-overflow_add-history g c =
+pub overflow_add-due : goal.overflow_add-due
+overflow_add-due g c =
     omega (arith, c.requires.flight.near, c.args.context.now.built.over.sound.few)
 
-pub overflow_add-history-2 : goal.overflow_add-history-2
-overflow_add-history-2 g c = let f = c.requires.flight in
+pub overflow_add-due-2 : goal.overflow_add-due-2
+overflow_add-due-2 g c = let f = c.requires.flight in
     omega (
       arith,
-      few c.args.context.now.run.now c.args.seat.now.me.0 c.args.history.now.node
-          c.args.history.now.fired c.args.context.now.built.over.sound.short f.count f.enabled,
+      few c.args.context.now.run.now c.args.seat.now.me.0 c.args.due.node
+          c.args.due.fired c.args.context.now.built.over.sound.short f.count f.enabled,
     )
 
 pub store-requires : goal.store-requires
-store-requires g c = let (table, _, (me, _)) = c.fetch_add-ticket.ensures in let q = c.args.context.now.built.over in let l : ℕ = c.args.history.now.node in
+store-requires g c = let (table, _, (me, _)) = c.fetch_add-ticket.ensures in let q = c.args.context.now.built.over in let l : ℕ = c.args.due.node in
     let m : Sat = c.args.seat.now.me in let run : Run = c.args.context.now.run.now in
     let n : ℕ = c.args.context.now.board.now.table_id.slots in
-    let t : ℕ = c.fetch_add-ticket.result in let F : ℕ = c.args.history.now.fired in
+    let t : ℕ = c.fetch_add-ticket.result in let F : ℕ = c.args.due.fired in
     let id : ℕ = c.fetch_add-ticket.new.seat.id in
     let P : Run → Sat → Type 0 = λ r x. Allows (Lawful r) n id x (l + 1)
     (λ _. F + 1) (λ _. published (step n (l + 1) (F + 1) 0 none) x (F + 1)) in (

@@ -1,4 +1,5 @@
 use Rattle.std.proofs.Common.{◌≡◌, vec_capacity, vec_len}
+use Rattle.std.proofs.Common.{◌++◌, ◌∷◌, []}
 use Rattle.ds_fabric.proofs.WordsInLists.{GoesOn, IsWrittenTo}
 use Rattle.ds_fabric.proofs.histories.write_at.Given as goal
 
@@ -7,5 +8,5 @@ invariant-loop-place l = GoesOn l.fn.words.items l.words.items × (vec_len l.wor
     × (vec_capacity l.words ≡ vec_capacity l.fn.words)
 
 abbrev pub invariant-loop-i : goal.invariant-loop-i
-invariant-loop-i l = IsWrittenTo l.fn.words.items l.words.items l.start l.end l.i l.told
-    × (vec_capacity l.words ≡ vec_capacity l.fn.words)
+invariant-loop-i l = IsWrittenTo l.fn.words.items l.list l.start l.end l.i
+    (l.told ++ l.ticket ∷ [])

@@ -1,5 +1,5 @@
-use Rattle.std.proofs.Common.{◌≡◌, ◌≤◌, ◌+◌, ◌++◌, ◌∷◌, [], ◌∙◌, ℕ, List, Bool, length}
-use Rattle.std.proofs.Common.{get_or, refl, arith, sym, ap, subst, cond, vec_len, vec_capacity, length-append}
+use Rattle.std.proofs.Common.{◌≡◌, ◌<◌, ◌≤◌, ◌+◌, ◌++◌, ◌∷◌, [], ◌∙◌, ℕ, List, Bool, length}
+use Rattle.std.proofs.Common.{get_or, refl, arith, sym, ap, subst, cond, vec_len, vec_capacity}
 use mathlib.Core.Option.{some}
 use lib.ListN.{get_elem?}
 use Rattle.ds_rule.specs.Run.{Run}
@@ -20,7 +20,7 @@ lent nodes at g h is there = sym (at_get nodes at g h there) ∙ sym is
 record Spanned (run : Run) (start end told room : ℕ) (h : History) : Type 0 where
   start_is : start ≡ start_of_words run h
   end_is : end ≡ end_of_turn run h
-  inside : start + told ≤ end
+  inside : start + told < end
   fits : end ≤ room
 
 spanned : (c : After-span-start) (run : Run)
@@ -32,11 +32,10 @@ spanned : (c : After-span-start) (run : Run)
 spanned c run r = let h : History = c.index_mut-history.result.now in
     let same = lent c.args.self.now.nodes.items c.args.at r.history h
     c.index_mut-history.ensures.value r.there in
-    let P : History → Type 0 = λ x. IsNextRole run x c.args.role in
+    let P : History → Type 0 = λ x. IsNextRole run x.node x.fired c.args.role in
     let s = c.span-start.ensures run (subst P same r.role_is) in
-    let told : length c.as_slice-told.result.now ≡ length c.args.self.now.buffers.told.items + 1 =
-    ap (λ (xs : List ℕ). length xs) (c.as_slice-told.ensures.value ∙ c.push_reserved.ensures.items)
-    ∙ length-append c.args.self.now.buffers.told.items (c.args.ticket ∷ []) in
+    let told : length c.as_slice-told.result.now ≡ length c.args.self.now.buffers.told.items =
+    ap (λ (xs : List ℕ). length xs) c.as_slice-told.ensures.value in
     record {
       start_is = s.0;
       end_is = s.1;
@@ -63,7 +62,7 @@ span-start-requires c = let (run, r) = c.requires.room in
     let same = lent c.args.self.now.nodes.items c.args.at r.history c.index_mut-history.result.now
     c.index_mut-history.ensures.value r.there in (
       run,
-      subst (λ (x : History). IsNextRole run x c.args.role) same r.role_is,
+      subst (λ (x : History). IsNextRole run x.node x.fired c.args.role) same r.role_is,
       subst (HasSpan run) same r.span,
     )
 
@@ -108,7 +107,7 @@ returns-then-self c run r = let h : History = c.index_mut-history.result.now in
     let same = lent c.args.self.now.nodes.items c.args.at r.history h
     c.index_mut-history.ensures.value r.there in
     let s = spanned (goal.at.returns-then-self c).After-span-start run r in
-    let told = c.as_slice-told.ensures.value ∙ c.push_reserved.ensures.items in
+    let told = ap (λ (xs : List ℕ). xs ++ c.args.ticket ∷ []) c.as_slice-told.ensures.value in
     let own = c.write_at.new.words in let all = c.args.self.now.together in record {
       old = h;
       new = record {
@@ -126,7 +125,7 @@ returns-then-self c run r = let h : History = c.index_mut-history.result.now in
       places = refl;
       apart = refl;
       from_room = refl;
-      told_room = c.push_reserved.ensures.capacity;
+      told_room = refl;
       noted = record {
         node = refl;
         fired = refl;
@@ -139,7 +138,7 @@ returns-then-self c run r = let h : History = c.index_mut-history.result.now in
         written = subst (λ (b : Bool). IsWritten (cond b h.own.items all.items)
             (cond b own.items all.items) (start_of_words run h) (end_of_turn run h)
             (c.args.self.now.buffers.told.items ++ c.args.ticket ∷ [])) (sym c.if-self.true)
-            (written_span run h.own.items own.items c.as_slice-told.result.now
+            (written_span run h.own.items own.items (c.as_slice-told.result.now ++ c.args.ticket ∷ [])
             (c.args.self.now.buffers.told.items ++ c.args.ticket ∷ []) c.span-start.result.0
             c.span-start.result.1 h s.start_is s.end_is told c.write_at.ensures.written);
       };
@@ -150,7 +149,7 @@ returns-else-self c run r = let h : History = c.index_mut-history.result.now in
     let same = lent c.args.self.now.nodes.items c.args.at r.history h
     c.index_mut-history.ensures.value r.there in
     let s = spanned (goal.at.returns-else-self c).After-span-start run r in
-    let told = c.as_slice-told.ensures.value ∙ c.push_reserved.ensures.items in
+    let told = ap (λ (xs : List ℕ). xs ++ c.args.ticket ∷ []) c.as_slice-told.ensures.value in
     let all = c.write_at-else-self.new.words in let old = c.args.self.now.together in record {
       old = h;
       new = record {
@@ -168,7 +167,7 @@ returns-else-self c run r = let h : History = c.index_mut-history.result.now in
       places = refl;
       apart = refl;
       from_room = refl;
-      told_room = c.push_reserved.ensures.capacity;
+      told_room = refl;
       noted = record {
         node = refl;
         fired = refl;
@@ -181,7 +180,7 @@ returns-else-self c run r = let h : History = c.index_mut-history.result.now in
         written = subst (λ (b : Bool). IsWritten (cond b h.own.items old.items)
             (cond b h.own.items all.items) (start_of_words run h) (end_of_turn run h)
             (c.args.self.now.buffers.told.items ++ c.args.ticket ∷ [])) (sym c.if-self.false)
-            (written_span run old.items all.items c.as_slice-told.result.now
+            (written_span run old.items all.items (c.as_slice-told.result.now ++ c.args.ticket ∷ [])
             (c.args.self.now.buffers.told.items ++ c.args.ticket ∷ []) c.span-start.result.0
             c.span-start.result.1 h s.start_is s.end_is told c.write_at-else-self.ensures.written);
       };
