@@ -49,7 +49,8 @@ impl History {
     /// Where in its list the words of the node's next event begin, whose role this is, and where
     /// the turn ends.
     pub fn span(&self, role: EventRole) -> (usize, usize)
-        requires { (run : Run) × IsNextRole run self.now.node self.now.fired role × HasSpan run self.now }
+        requires { (run : Run) × IsNextRole run self.now.node self.now.fired role
+            × HasSpan run self.now }
         ensures { (run : Run) → IsNextRole run self.now.node self.now.fired role
             → (result.0 ≡ start_of_words run self.now) × (result.1 ≡ end_of_turn run self.now) }
     {

@@ -1,8 +1,8 @@
 //! What a run is of: events, arcs and data edges by number, the widths of rows, and how often each
 //! event fires. Of the values proofs know, and code does not.
-ghost use Rattle.std.specs.Prelude.{◌≡◌, ◌↔◌, ◌<◌, ℕ, List, length, IsTrue, true};
+ghost use Rattle.std.specs.Prelude.{◌≡◌, ◌<◌, ℕ, List, length};
 ghost use Rattle.ds_base.specs.Values.{Row};
-ghost use Rattle.ds_rule.specs.Run.{Run, node_of, next, turns, opens};
+ghost use Rattle.ds_rule.specs.Run.{Run, node_of, next, turns};
 ghost use Rattle.ds_rule.specs.Words.{width};
 
 use crate::node_event::NodeEvent;
@@ -158,14 +158,6 @@ impl<V: RunValues> TableRun<V> {
     {
         let design_nodes = self.sizes.design_nodes;
         NodeEvent::next(node, fired, design_nodes).number(design_nodes)
-    }
-
-    /// The node's next event is an opening.
-    pub fn opens_next(&self, node: usize, fired: u64) -> bool
-        ensures { IsTrue result ↔ (opens self.now (next self.now node fired) ≡ true) }
-    {
-        let next = NodeEvent::next(node, fired, self.sizes.design_nodes);
-        next.role.opens()
     }
 
     /// How often the event has fired, where its node has fired so often.
