@@ -1,22 +1,12 @@
 -- A block of orders as it grows.
-use Rattle.std.proofs.Common.{◌≡◌, ◌⊎◌, ◌∙◌, ◌<◌, ◌≤◌, ◌+◌, ℕ, List, [], ◌∷◌, ◌++◌, length, get_or, inl, inr, arith, ap, sym, subst, length-append}
+use Rattle.std.proofs.Common.{◌≡◌, ◌∙◌, ◌<◌, ◌≤◌, ◌+◌, ℕ, List, [], ◌∷◌, ◌++◌, length, get_or, inl, inr, arith, ap, sym, subst, length-append}
 use Rattle.std.specs.Prelude.{All}
 use Rattle.std.specs.List.{HoldsAt}
-use Rattle.std.proofs.Math.ListN.{get_or-append}
 use Rattle.std.proofs.Math.Seq.{get_or-append_seam}
-use Rattle.std.proofs.lemmas.Bool.{cases_eq}
 use Rattle.std.proofs.lemmas.List.Elements.{All-push}
 use Rattle.ds_marked.specs.declared.marked.Arc.{Arc}
+use Rattle.ds_rank.proofs.SliceUpdates.{at_push}
 use Rattle.ds_accept.specs.Masks.{IsBlock}
-
--- after a push the new element stands at the end, each other one stays
-at_push : (xs : List ℕ) (y i : ℕ) → i < length xs + 1
-    → ((i ≡ length xs) × (get_or (xs ++ y ∷ []) i 0 ≡ y))
-    ⊎ ((i < length xs) × (get_or (xs ++ y ∷ []) i 0 ≡ get_or xs i 0))
-at_push xs y i lt = elim (cases_eq i (length xs)) [
-  | inl e ↦ inl (e, subst (λ (k : ℕ). get_or (xs ++ y ∷ []) k 0 ≡ y) (sym e) (get_or-append_seam xs y [] 0))
-  | inr ne ↦ let under : i < length xs = omega arith in inr (under, get_or-append xs (y ∷ []) 0 i under)
-]
 
 -- orders up to a place: a bit for each, and a source for each bit
 pub record IsGrowing (asked : List Arc) (from place : ℕ) (sources bits : List ℕ) : Type 0 where

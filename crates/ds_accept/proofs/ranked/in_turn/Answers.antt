@@ -1,4 +1,4 @@
-use Rattle.std.proofs.Common.{◌≡◌, ◌<◌, ℕ, map, Contains, refl, arith, rules}
+use Rattle.std.proofs.Common.{◌≡◌, ◌<◌, ℕ, map, Contains, arith, rules}
 use Rattle.std.specs.List.{range_with_len}
 use Rattle.std.proofs.lemmas.Iterator.{items_from_collect, YieldsList-from_map, YieldsList-from_range}
 use Rattle.std.proofs.lemmas.Result.{IfOk-weaker}
