@@ -65,6 +65,29 @@ module _ (line : Line) (lines : List Line) (parts : Parts) (p : Parted lines par
     models = models ∙ p.models;
   }
 
+  -- a line of a row, or one that is skipped
+  inner_line : (next : Parts) → is_outer line ≡ false → next.rows ≡ (as_rows (rows_among (line ∷ p.front))).rows
+      → next.on ≡ (as_rows (rows_among (line ∷ p.front))).on → next.commands ≡ parts.commands → next.models ≡ parts.models
+      → Parted (line ∷ lines) next
+  inner_line next is rows on commands models = record {
+    front = line ∷ p.front;
+    groups = p.groups;
+    before = p.before;
+    heads = p.heads;
+    lines_are = ap (λ (ls : List Line). line ∷ ls) p.lines_are;
+    inner = (is, p.inner);
+    outer = p.outer;
+    inner_behind = p.inner_behind;
+    groups_are = p.groups_are;
+    no_model = p.no_model;
+    models_begin = p.models_begin;
+    no_model_behind = p.no_model_behind;
+    rows = rows;
+    on = on;
+    commands = commands ∙ p.commands;
+    models = models ∙ p.models;
+  }
+
   -- a line of a command
   command_line : (part : Part) → is_outer line ≡ true → begins_model group ≡ false
       → part_by (head_at line) line.words (rows_among p.front) ≡ Some part
@@ -81,42 +104,8 @@ module _ (line : Line) (lines : List Line) (parts : Parts) (p : Parted lines par
 
   -- a line of a kind
   parted_line : (head : Head) → head_at line ≡ head → Parted (line ∷ lines) (with_head head line.number line.words parts)
-  parted_line Row is = record {
-    front = line ∷ p.front;
-    groups = p.groups;
-    before = p.before;
-    heads = p.heads;
-    lines_are = ap (λ (ls : List Line). line ∷ ls) p.lines_are;
-    inner = (rw is refl, p.inner);
-    outer = p.outer;
-    inner_behind = p.inner_behind;
-    groups_are = p.groups_are;
-    no_model = p.no_model;
-    models_begin = p.models_begin;
-    no_model_behind = p.no_model_behind;
-    rows = rw is (ap (λ (rows : List (List ℕ)). plane_of line.words ∷ rows) p.rows);
-    on = rw is refl;
-    commands = p.commands;
-    models = p.models;
-  }
-  parted_line Skipped is = record {
-    front = line ∷ p.front;
-    groups = p.groups;
-    before = p.before;
-    heads = p.heads;
-    lines_are = ap (λ (ls : List Line). line ∷ ls) p.lines_are;
-    inner = (rw is refl, p.inner);
-    outer = p.outer;
-    inner_behind = p.inner_behind;
-    groups_are = p.groups_are;
-    no_model = p.no_model;
-    models_begin = p.models_begin;
-    no_model_behind = p.no_model_behind;
-    rows = rw is p.rows;
-    on = rw is p.on;
-    commands = p.commands;
-    models = p.models;
-  }
+  parted_line Row is = inner_line (with_head Row line.number line.words parts) (rw is refl) (rw is (ap (λ (rows : List (List ℕ)). plane_of line.words ∷ rows) p.rows)) (rw is refl) refl refl
+  parted_line Skipped is = inner_line parts (rw is refl) (rw is p.rows) (rw is p.on) refl refl
   parted_line Model is = record {
     front = [];
     groups = group ∷ p.groups;
