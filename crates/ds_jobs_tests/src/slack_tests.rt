@@ -153,16 +153,7 @@ g: missing order M0- to IN+ with 1 tokens (no walk)
 %= 1
 g: missing order M0- to IN+ with 2 tokens (least walk 3)
 %$ desync accept toggle g --slack 2
-%= 0
-accepted
-IN+ 0
-IN- 1
-OUT+ 0
-OUT- 1
-M0+ 1
-M0- 2
-S0+ 3
-S0- 4
+%= 0 < ranks
 %g < graph
 <M0-,IN+> <M0-,M0+> <S0+,OUT+> <S0+,M0+> <S0-,M0+> <S0-,S0+> }
 =>

@@ -101,14 +101,10 @@ S1+ M0+ 1
 %= 0 < g
 %$ desync accept b g --clusters bus
 %$ desync accept b g --groups f
-%= 0
-accepted
-IN+ 0
-IN- 1
-OUT+ 0
-OUT- 1
-M0+ 1
-M0- 2
+%= 0 < ranks
+S0+ 3
+S0- 4
+=>
 S0+ 2
 S0- 3
 M1+ 0
@@ -130,20 +126,18 @@ fired 10 of 24
 0 0 000
 1 0 100
 end 010
+%p < dummied_period
+period 7/1
+cycle M0+ e S0+
+=>
+period 5/1
+cycle M0+ S0+ M1+ S1+
 %$ desync period b d --clusters bus
 %$ desync period b d --groups f
 %$ desync period b d --groups f --graph g
-%= 0
-period 5/1
-cycle M0+ S0+ M1+ S1+
-potential IN+ 0
-potential IN- 0
-potential OUT+ 0
-potential OUT- 0
-potential M0+ 0
-potential M0- 0
-potential S0+ 3
-potential S0- 3
+%= 0 < p
+potential e 2
+=>
 potential M1+ 0
 potential M1- 0
 potential S1+ 4

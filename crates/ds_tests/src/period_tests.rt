@@ -16,17 +16,19 @@ M0+ S0+ 4
 S0+ M1+ 7
 M1+ S1+ 5
 S1+ M0+ 5
-%$ desync period rr d
-%$ desync period rr d --clusters each
-%= 0
+%p < dummied_period
+period 7/1
+cycle M0+ e S0+
+=>
 period 21/2
 cycle M0+ S0+ M1+ S1+
-potential IN+ 0
-potential IN- 0
-potential OUT+ 0
-potential OUT- 0
-potential M0+ 0
-potential M0- 0
+%$ desync period rr d
+%$ desync period rr d --clusters each
+%= 0 < p
+potential S0+ 3
+potential S0- 3
+potential e 2
+=>
 potential S0+ 8
 potential S0- 8
 potential M1+ 1
@@ -41,17 +43,7 @@ S0+ \\
 M0+ 0000000004
 M0+ M0- 2 # the third
 %$ desync period toggle d
-%= 0
-period 7/1
-cycle M0+ S0+
-potential IN+ 0
-potential IN- 0
-potential OUT+ 0
-potential OUT- 0
-potential M0+ 0
-potential M0- 2
-potential S0+ 3
-potential S0- 3
+%= 0 < period
 %d
 IN+ IN- 4294967295
 IN- IN+ 4294967295
@@ -80,16 +72,16 @@ const SLACKS: &str = "%d
 M0+ S0+ 3
 S0+ S0- 5
 S0- M0+ 10
-%p
+%p < dummied_period
+period 7/1
+cycle M0+ e S0+
+=>
 period 18/1
 cycle M0+ S0+ S0-
-potential IN+ 0
-potential IN- 0
-potential OUT+ 0
-potential OUT- 0
-potential M0+ 0
-potential M0- 0
-potential S0+ 3
+%p < p
+potential S0- 3
+potential e 2
+=>
 potential S0- 8
 %$ desync period toggle d
 %$ desync period toggle d --slack 0
@@ -115,54 +107,22 @@ fn slack_is_in_the_period(rt: HostRuntime) -> Result<(), Fail> {
 
 // A graph of the user's: its events, a dummy among them, and two arcs with the same ends, of which
 // the cycle takes that of fewer tokens; lines that name none of its arcs, and the same ends twice.
-const GRAPHS: &str = "%g
-.model toggle
-.outputs IN OUT M0 S0
-.dummy e
-.graph
-IN+ IN- M0+
-IN- IN+
-OUT+ OUT-
-OUT- OUT+ S0+
-M0+ M0- e
-e S0+
-M0- IN+ M0+ S0+
-S0+ OUT+ M0+ S0- p
-p M0+
-S0- M0+ S0+
-.marking { <IN-,IN+> <OUT-,OUT+> <M0-,IN+> <M0-,M0+> <S0+,OUT+> <S0+,M0+> p=3 <S0-,M0+> <S0-,S0+> }
-.end
-%d
-M0+ e 2
-e S0+ 1
-S0+ M0+ 4
-%$ desync period toggle d --graph g
-%$ desync period toggle d --graph=g --slack 3
-%= 0
-period 7/1
-cycle M0+ e S0+
-potential IN+ 0
-potential IN- 0
-potential OUT+ 0
-potential OUT- 0
-potential M0+ 0
-potential M0- 0
-potential S0+ 3
-potential S0- 3
-potential e 2
+const GRAPHS: &str = "%$ desync period toggle dummied_delays --graph dummied
+%$ desync period toggle dummied_delays --graph=dummied --slack 3
+%= 0 < dummied_period
 %d
 S0+ M0+ 4
 M0+ S0+ 3
-%$ desync period toggle d --graph g
+%$ desync period toggle d --graph dummied
 %= 1
 d:2: unknown order M0+ to S0+
 %d
 S0+ M0+ 4
 S0+ M0+ 4
-%$ desync period toggle d --graph g
+%$ desync period toggle d --graph dummied
 %= 1
 d:2: repeated order S0+ to M0+
-%h < g
+%h < dummied
 p=3 <S0-,M0+> <S0-,S0+> }
 =>
 p=3 <S0-,M0+>=2 <S0-,S0+> }

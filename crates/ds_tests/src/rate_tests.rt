@@ -6,101 +6,24 @@ use std::test::Fail;
 // same ends; one with an event without arcs, and a slower cycle beside; and two graphs of no
 // controller: a handshake, whose events stand in the order of the graph, and an event that waits
 // for itself.
-const RATES: &str = "%d
-M0+ S0+ 3
-S0+ M0+ 4
-M0+ M0- 2
-%$ desync rate graph d
-%$ desync period toggle d
-%= 0
-period 7/1
-cycle M0+ S0+
-potential IN+ 0
-potential IN- 0
-potential OUT+ 0
-potential OUT- 0
-potential M0+ 0
-potential M0- 2
-potential S0+ 3
-potential S0- 3
-%g
-.model toggle
-.outputs IN OUT M0 S0
-.dummy e
-.graph
-IN+ IN- M0+
-IN- IN+
-OUT+ OUT-
-OUT- OUT+ S0+
-M0+ M0- e
-e S0+
-M0- IN+ M0+ S0+
-S0+ OUT+ M0+ S0- p
-p M0+
-S0- M0+ S0+
-.marking { <IN-,IN+> <OUT-,OUT+> <M0-,IN+> <M0-,M0+> <S0+,OUT+> <S0+,M0+> \\
-    p=3 <S0-,M0+> <S0-,S0+> }
-.end
-%d
-M0+ e 2
-e S0+ 1
-S0+ M0+ 4
-%$ desync rate g d
-%$ desync period toggle d --graph g
-%= 0
+const RATES: &str = "%$ desync rate graph delays
+%$ desync period toggle delays
+%= 0 < period
+%$ desync rate dummied dummied_delays
+%$ desync period toggle dummied_delays --graph dummied
+%= 0 < dummied_period
+%p < dummied_period
 period 7/1
 cycle M0+ e S0+
 potential IN+ 0
 potential IN- 0
-potential OUT+ 0
-potential OUT- 0
-potential M0+ 0
-potential M0- 0
-potential S0+ 3
-potential S0- 3
-potential e 2
-%h
-.model toggle
-.outputs IN OUT M0 S0
-.dummy e w f a b
-.graph
-IN+ w M0+
-w IN-
-IN- IN+
-OUT+ OUT-
-OUT- OUT+ S0+
-M0+ M0- e
-e S0+
-M0- IN+ M0+ S0+
-S0+ OUT+ M0+ S0- p
-p M0+
-S0- M0+ S0+
-a b
-b a
-.marking { <IN-,IN+> <OUT-,OUT+> <M0-,IN+> <M0-,M0+> <S0+,OUT+> <S0+,M0+> \\
-    p=3 <S0-,M0+> <S0-,S0+> <b,a> }
-.end
-%d
-M0+ e 2
-e S0+ 1
-S0+ M0+ 4
-IN+ w 5
-w IN- 6
-a b 4294967295
-b a 4294967295
-%$ desync rate h d
-%= 0
+=>
 period 8589934590/1
 cycle a b
 potential IN+ 0
 potential IN- 11
-potential OUT+ 0
-potential OUT- 0
-potential M0+ 0
-potential M0- 0
-potential S0+ 3
-potential S0- 3
-potential e 2
+%$ desync rate beside beside_delays
+%= 0 < p
 potential w 5
 potential f 0
 potential a 0

@@ -1,23 +1,24 @@
 //! When events fire, turn by turn. The times are worked out from the definition of a schedule.
-use ds_trial::play;
+use ds_trial::{play, play_behind};
 use std::test::Fail;
 
-// The toggle: two turns, one, and none, behind the same checks; and no delays at all.
-const TIMES: &str = "%d
-M0+ S0+ 3
-S0+ M0+ 4
-M0+ M0- 2
-%$ desync times toggle d 2
-%$ desync times toggle d 02 --clusters one
-%= 0
+// The events that fire at 0 in the first turn.
+const FIRST: &str = "%first
 IN+ 1 0
 OUT+ 1 0
 IN- 1 0
 OUT- 1 0
 M0+ 1 0
+";
+
+// The toggle: two turns, one, and none, behind the same checks; and no delays at all.
+const TIMES: &str = "%turn < first
 M0- 1 2
 S0+ 1 3
 S0- 1 3
+%$ desync times toggle delays 2
+%$ desync times toggle delays 02 --clusters one
+%= 0 < turn
 IN+ 2 2
 OUT+ 2 3
 IN- 2 2
@@ -26,26 +27,13 @@ M0+ 2 7
 M0- 2 9
 S0+ 2 10
 S0- 2 10
-%$ desync times toggle d 1
-%= 0
-IN+ 1 0
-OUT+ 1 0
-IN- 1 0
-OUT- 1 0
-M0+ 1 0
-M0- 1 2
-S0+ 1 3
-S0- 1 3
-%$ desync times toggle d 0
+%$ desync times toggle delays 1
+%= 0 < turn
+%$ desync times toggle delays 0
 %= 0
 %none
 %$ desync times toggle none 1
-%= 0
-IN+ 1 0
-OUT+ 1 0
-IN- 1 0
-OUT- 1 0
-M0+ 1 0
+%= 0 < first
 M0- 1 0
 S0+ 1 0
 S0- 1 0
@@ -53,7 +41,7 @@ S0- 1 0
 
 #[test]
 fn events_fire_as_early_as_they_may(rt: HostRuntime) -> Result<(), Fail> {
-    play(&rt, TIMES, 5)
+    play_behind(&rt, FIRST, TIMES, 5)
 }
 
 // With slack a master opens again before its slave has closed.
@@ -61,13 +49,7 @@ const SLACKS: &str = "%d
 M0+ S0+ 3
 S0+ S0- 5
 S0- M0+ 10
-%$ desync times toggle d 2
-%= 0
-IN+ 1 0
-OUT+ 1 0
-IN- 1 0
-OUT- 1 0
-M0+ 1 0
+%turns < first
 M0- 1 0
 S0+ 1 3
 S0- 1 8
@@ -75,24 +57,14 @@ IN+ 2 0
 OUT+ 2 3
 IN- 2 0
 OUT- 2 3
+%$ desync times toggle d 2
+%= 0 < turns
 M0+ 2 18
 M0- 2 18
 S0+ 2 21
 S0- 2 26
 %$ desync times toggle d 3 --slack 2
-%= 0
-IN+ 1 0
-OUT+ 1 0
-IN- 1 0
-OUT- 1 0
-M0+ 1 0
-M0- 1 0
-S0+ 1 3
-S0- 1 8
-IN+ 2 0
-OUT+ 2 3
-IN- 2 0
-OUT- 2 3
+%= 0 < turns
 M0+ 2 3
 M0- 2 3
 S0+ 2 8
@@ -109,41 +81,13 @@ S0- 3 18
 
 #[test]
 fn slack_is_in_the_times(rt: HostRuntime) -> Result<(), Fail> {
-    play(&rt, SLACKS, 2)
+    play_behind(&rt, FIRST, SLACKS, 2)
 }
 
-// Graphs of the user's: with a dummy, and two arcs with the same ends; then without an arc from IN+
-// to IN-, with an event f without arcs, and with a cycle that no node waits for, whose times pass
-// 32 bits; and the expansion of the toggle's own graph.
-const GRAPHS: &str = "%g
-.model toggle
-.outputs IN OUT M0 S0
-.dummy e
-.graph
-IN+ IN- M0+
-IN- IN+
-OUT+ OUT-
-OUT- OUT+ S0+
-M0+ M0- e
-e S0+
-M0- IN+ M0+ S0+
-S0+ OUT+ M0+ S0- p
-p M0+
-S0- M0+ S0+
-.marking { <IN-,IN+> <OUT-,OUT+> <M0-,IN+> <M0-,M0+> <S0+,OUT+> <S0+,M0+> \\
-    p=3 <S0-,M0+> <S0-,S0+> }
-.end
-%d
-M0+ e 2
-e S0+ 1
-S0+ M0+ 4
-%$ desync times toggle d 2 --graph g
-%= 0
-IN+ 1 0
-OUT+ 1 0
-IN- 1 0
-OUT- 1 0
-M0+ 1 0
+// Graphs of the user's, and the expansion of the toggle's own graph. In the second graph f has no
+// arcs, and the times of a and b pass 32 bits.
+const GRAPHS: &str = "%$ desync times toggle dummied_delays 2 --graph dummied
+%= 0 < first
 M0- 1 0
 e 1 2
 S0+ 1 3
@@ -157,36 +101,7 @@ M0- 2 7
 e 2 9
 S0+ 2 10
 S0- 2 10
-%h
-.model toggle
-.outputs IN OUT M0 S0
-.dummy e w f a b
-.graph
-IN+ w M0+
-w IN-
-IN- IN+
-OUT+ OUT-
-OUT- OUT+ S0+
-M0+ M0- e
-e S0+
-M0- IN+ M0+ S0+
-S0+ OUT+ M0+ S0- p
-p M0+
-S0- M0+ S0+
-a b
-b a
-.marking { <IN-,IN+> <OUT-,OUT+> <M0-,IN+> <M0-,M0+> <S0+,OUT+> <S0+,M0+> \\
-    p=3 <S0-,M0+> <S0-,S0+> <b,a> }
-.end
-%d
-M0+ e 2
-e S0+ 1
-S0+ M0+ 4
-IN+ w 5
-w IN- 6
-a b 4294967295
-b a 4294967295
-%$ desync times toggle d 3 --graph=h
+%$ desync times toggle beside_delays 3 --graph=beside
 %= 0
 IN+ 1 0
 OUT+ 1 0
@@ -288,7 +203,7 @@ a1- 2 18
 
 #[test]
 fn graphs_of_a_file_are_timed(rt: HostRuntime) -> Result<(), Fail> {
-    play(&rt, GRAPHS, 3)
+    play_behind(&rt, FIRST, GRAPHS, 3)
 }
 
 // Each check comes for any number of turns, also for none: the netlist, the groups, the graph, and

@@ -6,20 +6,25 @@ use std::alloc::{AllocError, Global};
 /// with the files that are there from the start. A part that names none that is there, or changes
 /// lines that do not stand in it, stays as it is.
 pub fn spelled_out(alloc: Global, before: &str, script: &str) -> Result<String, AllocError> {
-    let mut all = String::from_str(alloc, FURTHER)?;
+    let mut all = String::new(alloc);
     for piece in ["%toggle\n", TOGGLE, "%graph\n", GRAPH, "%ranks\n", RANKS] {
         all.push_str(piece)?;
     }
     for piece in ["%toggled\n", EXPANSION, "%ring\n", RING, "%shift\n", SHIFT] {
         all.push_str(piece)?;
     }
-    for part in before.split('%') {
-        push_part(alloc, &mut all, part)?;
-    }
-    for part in script.split('%') {
-        push_part(alloc, &mut all, part)?;
+    for text in [FURTHER, before, script] {
+        push_parts(alloc, &mut all, text)?;
     }
     Ok(all)
+}
+
+// Appends the parts of a text, each spelled out by those before it.
+fn push_parts(alloc: Global, all: &mut String, text: &str) -> Result<(), AllocError> {
+    for part in text.split('%') {
+        push_part(alloc, all, part)?;
+    }
+    Ok(())
 }
 
 // Appends a part, spelled out by those before it.

@@ -69,7 +69,11 @@ pub const SHIFT: &str =
 /// Further files of scripts: a wire, a table whose model goes on, two tables against the order of
 /// the file, a register in a copy, and two copies of a table; of the toggle, four vectors, the
 /// trace for them, a log of one turn, one up to where its slave may rise, and the ranks where an
-/// event more stands before its slave rises.
+/// event more stands before its slave rises; delays of its own graph, and the period with them; a
+/// graph of the user's for it, with a dummy and with two arcs that have the same ends, delays of
+/// that graph, and the period with them; and the same graph and delays without an arc from IN+ to
+/// IN-, with an event f without arcs, and with a cycle that no node waits for, whose times pass 32
+/// bits.
 pub const FURTHER: &str = "%wire
 .model w
 .inputs a
@@ -154,4 +158,77 @@ M0+ 1
 M0- 1
 OUT+ 1
 OUT- 1
+%delays
+M0+ S0+ 3
+S0+ M0+ 4
+M0+ M0- 2
+%period
+period 7/1
+cycle M0+ S0+
+potential IN+ 0
+potential IN- 0
+potential OUT+ 0
+potential OUT- 0
+potential M0+ 0
+potential M0- 2
+potential S0+ 3
+potential S0- 3
+%dummied
+.model toggle
+.outputs IN OUT M0 S0
+.dummy e
+.graph
+IN+ IN- M0+
+IN- IN+
+OUT+ OUT-
+OUT- OUT+ S0+
+M0+ M0- e
+e S0+
+M0- IN+ M0+ S0+
+S0+ OUT+ M0+ S0- p
+p M0+
+S0- M0+ S0+
+.marking { <IN-,IN+> <OUT-,OUT+> <M0-,IN+> <M0-,M0+> <S0+,OUT+> <S0+,M0+> \\
+    p=3 <S0-,M0+> <S0-,S0+> }
+.end
+%dummied_delays
+M0+ e 2
+e S0+ 1
+S0+ M0+ 4
+%dummied_period
+period 7/1
+cycle M0+ e S0+
+potential IN+ 0
+potential IN- 0
+potential OUT+ 0
+potential OUT- 0
+potential M0+ 0
+potential M0- 0
+potential S0+ 3
+potential S0- 3
+potential e 2
+%beside < dummied
+.dummy e
+.graph
+IN+ IN- M0+
+=>
+.dummy e w f a b
+.graph
+IN+ w M0+
+w IN-
+%beside < beside
+S0- M0+ S0+
+=>
+S0- M0+ S0+
+a b
+b a
+%beside < beside
+<S0-,S0+> }
+=>
+<S0-,S0+> <b,a> }
+%beside_delays < dummied_delays
+IN+ w 5
+w IN- 6
+a b 4294967295
+b a 4294967295
 ";
