@@ -1,9 +1,8 @@
 #!/usr/bin/env python3
-"""Draws docs/simulators.svg and docs/workers.svg from the results, by gnuplot.
+"""Draws docs/simulators.svg from the results, by gnuplot.
 
-The first has the microseconds of a turn by Desync's `clock` and by other simulators, for each
-netlist of results/simulators.txt; the second the least seconds of a run by number of workers, for
-each job of results/workers.txt. A cell `-` is left out.
+It has the microseconds of a turn by Desync's `clock` and by other simulators, for each netlist of
+results/simulators.txt. A cell `-` is left out.
 """
 
 import argparse
@@ -29,12 +28,6 @@ def number(cell):
     """The first number of a cell, or nothing."""
     found = re.match(r"[\d.]+", cell.replace(",", ""))
     return found[0] if found else "-"
-
-
-def least(cell):
-    """The least number of a cell that has a median and two ends, or its first number."""
-    found = re.search(r"\(([\d.]+)", cell)
-    return found[1] if found else number(cell)
 
 
 def quoted(text):
@@ -63,26 +56,6 @@ def simulators():
     yield from drawn(data, "%d:xtic(1)", names)
 
 
-def workers():
-    """Lines: seconds by number of workers."""
-    head, *rows = Results("workers").rows()
-    counts = [name for name in head if name.split()[0].isdigit()]
-    data = []
-    for at in counts:
-        cells = [least(dict(zip(head, row))[at]) for row in rows]
-        data.append(" ".join([at.split()[0]] + cells))
-    yield "set logscale x 2"
-    yield "set xrange [0.8:80]"
-    yield "set yrange [0:*]"
-    yield 'set xlabel "workers"'
-    yield 'set ylabel "least seconds"'
-    yield "set xtics (%s)" % ", ".join(at.split()[0] for at in counts)
-    yield "set style data linespoints"
-    yield "set pointsize 0.7"
-    yield "set key outside right center"
-    yield from drawn(data, "1:%d", [row[0].split(":")[0] for row in rows])
-
-
 def drawn(data, using, names):
     """The data, and the commands that draw a column of them for each name."""
     yield "$data << END\n%s\nEND" % "\n".join(data)
@@ -97,10 +70,9 @@ def main():
     argparse.ArgumentParser(description=__doc__.split("\n")[0]).parse_args()
     if not shutil.which("gnuplot"):
         sys.exit("plots.py: gnuplot is not there")
-    for name, lines in (("simulators", simulators()), ("workers", workers())):
-        path = os.path.join(DOCS, name + ".svg")
-        text = STYLE + 'set output "%s"\n' % path + "\n".join(lines) + "\n"
-        subprocess.run(["gnuplot"], input=text.encode(), check=True)
+    path = os.path.join(DOCS, "simulators.svg")
+    text = STYLE + 'set output "%s"\n' % path + "\n".join(simulators()) + "\n"
+    subprocess.run(["gnuplot"], input=text.encode(), check=True)
 
 
 if __name__ == "__main__":

@@ -4,8 +4,7 @@
 A file results/NAME.txt has the lines `date:`, `machine:`, `command:` and `about:`, and behind
 them a table as a script prints it. In the page a line that ends in `<!-- results: NAME -->`, and
 the table behind it, are made of that. Without an option all of them are made anew. `--keep NAME`
-first takes the table of results/NAME.txt from the standard input, with the date of today; one of
-bench/workers.py gets a line for each job:
+first takes the table of results/NAME.txt from the standard input, with the date of today:
 
     bench/run.py | bench/report.py --keep simulators --machine "four processors" \\
         --command bench/run.py --about "seconds by the clock, medians of five"
@@ -71,23 +70,9 @@ def cells_of(line):
     return [cell.strip() for cell in line.strip("|").split("|")]
 
 
-def by_workers(lines):
-    """A table with a line for each job and number of workers, with a line for each job."""
-    jobs, counts = {}, []
-    for line in lines[2:]:
-        name, count, told = cells_of(line)[:3]
-        counts += [count] if count and count not in counts else []
-        jobs.setdefault(name.removeprefix("clock, "), {})[count] = told
-    head = ["Job", "clock"] + [it + (" worker" if it == "1" else " workers") for it in counts]
-    rows = [[name] + [told.get(it, "-") for it in [""] + counts] for name, told in jobs.items()]
-    return ["| %s |" % " | ".join(row) for row in [head, ["---"] * len(head)] + rows]
-
-
 def keep(asked):
     """Takes a table from the standard input."""
     lines = [line for line in sys.stdin.read().splitlines() if line.startswith("|")]
-    if lines and cells_of(lines[0])[:2] == ["Job", "Workers"]:
-        lines = by_workers(lines)
     heads = {head: getattr(asked, head) for head in HEADS[1:]}
     if os.path.exists(place(asked.keep)):
         before = Results(asked.keep).heads
