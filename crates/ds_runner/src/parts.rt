@@ -47,8 +47,8 @@ pub fn borders_of<V: RunValues, C: Compute, G: Gate>(
 }
 
 /// How many parts pay for at most so many workers, if the nodes have so much work in a turn. One:
-/// no number of workers halves the time, by this count, which is too high where groups read nothing
-/// new. One part takes a quarter more than the others.
+/// by this count several workers take at least two thirds of the time of one. The count is too high
+/// where groups read nothing new. One part takes a quarter more than the others.
 pub fn paying_parts(nodes: usize, work: u64, most: u32) -> u32
     requires most { 0 < most }
     ensures { (0 < result) × (result ≤ most) }
@@ -60,7 +60,7 @@ pub fn paying_parts(nodes: usize, work: u64, most: u32) -> u32
     let part = work / parts as u64;
     let added = DRAWS.saturating_mul(nodes as u64).saturating_add(MEETING);
     let together = part.saturating_add(part / 4).saturating_add(added);
-    if together < work / 2 { parts } else { 1 }
+    if together < work / 3 * 2 { parts } else { 1 }
 }
 
 /// The work of all nodes in a turn, counted in tables. A hint, as what it is made of.
