@@ -16,6 +16,12 @@ mod dummy_tests;
 #[cfg(test)]
 mod graph_tests;
 #[cfg(test)]
+mod group_file_tests;
+#[cfg(test)]
+mod group_limit_tests;
+#[cfg(test)]
+mod group_name_tests;
+#[cfg(test)]
 mod groups_tests;
 #[cfg(test)]
 mod period_tests;

@@ -12,13 +12,13 @@ M0+ 1 0
 ";
 
 // The toggle: two turns, one, and none, behind the same checks; and no delays at all.
-const TIMES: &str = "%turn < first
+const TIMES: &str = "%one < first
 M0- 1 2
 S0+ 1 3
 S0- 1 3
 %$ desync times toggle delays 2
 %$ desync times toggle delays 02 --clusters one
-%= 0 < turn
+%= 0 < one
 IN+ 2 2
 OUT+ 2 3
 IN- 2 2
@@ -28,7 +28,7 @@ M0- 2 9
 S0+ 2 10
 S0- 2 10
 %$ desync times toggle delays 1
-%= 0 < turn
+%= 0 < one
 %$ desync times toggle delays 0
 %= 0
 %none

@@ -66,14 +66,18 @@ pub const RING: &str =
 pub const SHIFT: &str =
     ".model shift\n.inputs a\n.outputs q1\n.latch a q0 re clk 0\n.latch q0 q1 re clk 0\n.end\n";
 
-/// Further files of scripts: a wire, a table whose model goes on, two tables against the order of
-/// the file, a register in a copy, and two copies of a table; of the toggle, four vectors, the
-/// trace for them, a log of one turn, one up to where its slave may rise, and the ranks where an
-/// event more stands before its slave rises; delays of its own graph, and the period with them; a
-/// graph of the user's for it, with a dummy and with two arcs that have the same ends, delays of
-/// that graph, and the period with them; and the same graph and delays without an arc from IN+ to
-/// IN-, with an event f without arcs, and with a cycle that no node waits for, whose times pass 32
-/// bits.
+/// Further files of scripts:
+///
+/// - `wire`, `and`, `levels`: tables, the last two against the order of the file;
+/// - `copy`, `copies`: a register in a copy, and two copies of a table;
+/// - of the toggle: `four` vectors, the `trace` for them, the log of one `turn`, the ranks with one
+///   event more before its slave rises (`late`), and a log up to where its slave may rise
+///   (`begun`);
+/// - `delays` of its own graph, and the `period` with them;
+/// - a graph of the user's for it with a dummy and two arcs with the same ends, its delays and its
+///   period (`dummied`);
+/// - the same graph and delays without an arc from IN+ to IN-, with an event f without arcs, and
+///   with a cycle that no node waits for, whose times pass 32 bits (`beside`).
 pub const FURTHER: &str = "%wire
 .model w
 .inputs a
