@@ -7,6 +7,7 @@ ghost use Rattle.ds_clocked.specs.declared.run.SimFault.TheVariants as faults;
 ghost use Rattle.ds_stream.specs.Next.{FitsHeld};
 ghost use Rattle.ds_run.specs.WindowedText.{IsSomeLog, WritesEnd};
 ghost use Rattle.ds_run.specs.Logged.{IsLogOf};
+ghost use Rattle.ds_run.specs.Openings.{HasConeGroups};
 ghost use Rattle.ds_stage.specs.declared.stop.Stop.TheVariants.{Memory, Unwritten};
 ghost use Rattle.ds_stage.specs.Ends.{Ends, RoseIn, UnlessUnread, UnlessUnwritten, output_between};
 ghost use Rattle.ds_stage.specs.StreamStage.{most_vectors as most_vectors_of};
@@ -19,7 +20,7 @@ use ds_clocked::SimFault;
 use ds_cmd::RunJob;
 use ds_latch::Plan;
 use ds_outside::{Files, Gate, Sink, WriteFault};
-use ds_run::{Log, RunWindow, WorkerSettings, end_run, write_window};
+use ds_run::{ConeGroups, Log, RunWindow, WorkerSettings, end_run, write_window};
 use ds_stage::{Splitting, Stop, WINDOW, most_vectors, plan_netlist, read_netlist, read_window};
 use ds_stream::VectorReader;
 use std::alloc::Global;
@@ -115,7 +116,7 @@ fn write_traced<R: AllocGlobal + Threads + Sync, G: Gate, F: Files, O: Sink>(
     // Read for the facts that its numbers are in range, and that it is accepted.
     let _design = plan.latches().netlist().design();
     let _graph = plan.graph();
-    let mut log = log_for(alloc, plan, job.log)?;
+    let (mut log, cones) = begun_for(alloc, plan, job.log)?;
     let mut reader = reader_for(plan, job.log);
     let mut first = 0;
     let mut more = true;
@@ -124,6 +125,7 @@ fn write_traced<R: AllocGlobal + Threads + Sync, G: Gate, F: Files, O: Sink>(
         let turns = vectors.count();
         let window = RunWindow {
             plan: &*plan,
+            cones: &cones,
             vectors: &vectors,
             first,
         };
@@ -175,13 +177,21 @@ fn reader_for(plan: &Plan<'_>, log: bool) -> VectorReader
     VectorReader::new(width, most_vectors(log))
 }
 
-// The log before the first firing of a plan, where one is wanted.
-fn log_for(alloc: Global, plan: &Plan<'_>, wanted: bool) -> Result<Option<Log>, OutOfMemory>
-    ensures { IfOk result (IsLogOf wanted plan.now.graph 0) }
+// What goes from window to window of a plan: the log before the first firing, where one is wanted,
+// and the groups of the cones.
+fn begun_for<'n>(
+    alloc: Global,
+    plan: &Plan<'n>,
+    wanted: bool,
+) -> Result<(Option<Log>, ConeGroups<'n>), OutOfMemory>
+    ensures log { IfOk result (λ begun. IsLogOf wanted plan.now.graph 0 begun.0) }
+    ensures cones { IfOk result (λ begun. HasConeGroups plan.now.split begun.1.groups) }
 {
-    if wanted {
-        Ok(Some(Log::new(alloc, plan)?))
+    let cones = ConeGroups::of(alloc, plan.latches())?;
+    let log = if wanted {
+        Some(Log::new(alloc, plan)?)
     } else {
-        Ok(None)
-    }
+        None
+    };
+    Ok((log, cones))
 }

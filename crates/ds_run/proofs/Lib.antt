@@ -20,6 +20,7 @@ pub mod FinishedTurns
 pub mod TraceLines
 pub mod Logged
 pub mod Summed
+pub mod WindowGroups
 pub mod WindowTexts
 pub mod RowPieces
 pub mod Stops

@@ -47,7 +47,7 @@ value-in-part run l place k = let row : Row = node_values run l k in
     ∙ (get_or-drop (32 * (place / 32)) row (place % 32) Zero
     ∙ ap (λ (n : ℕ). get_or row n Zero) cut)
 
-map_same : {A B : Type 0} (f g : A → B) → ((x : A) → f x ≡ g x) → (xs : List A) → map f xs ≡ map g xs
+pub map_same : {A B : Type 0} (f g : A → B) → ((x : A) → f x ≡ g x) → (xs : List A) → map f xs ≡ map g xs
 map_same f g same [] = refl
 map_same f g same (x ∷ xs) = ap (λ y. y ∷ map f xs) (same x)
     ∙ ap (λ ys. g x ∷ ys) (map_same f g same xs)

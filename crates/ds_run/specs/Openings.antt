@@ -34,6 +34,10 @@ memory_of s g order vectors = record {
   rows = map (nets_in s.circuit order s.initial vectors) (range_with_len 0 (length vectors));
 }
 
+-- a split design has these groups of the cones of its nodes, whatever its initial values
+abbrev pub HasConeGroups : Split → Grouping → Type 0
+HasConeGroups s groups = AreConeGroups s groups
+
 -- groups and first rows of slaves belong to a run of this split design on these vectors
 pub record AreOpenings (s : Split) (vectors : Rows) (run : Run) (groups : Grouping)
     (order : List ℕ) (starts : List Row) : Type 0 where

@@ -4,12 +4,13 @@
 //! edges by consumer, the lengths of the rows, and the values of the clocked run, which no code
 //! knows before it has fired. What it gives is sound and accepted in the sense of the rule.
 //! `Openings` computes the row of an opening from the rows that it is handed, each behind the
-//! number of its producer, and from those that the scratch has learnt. `run` has workers fire the
-//! events (`ds_runner::run`), and its record tells of every node that it stored the rows of the
-//! clocked run, and that the firings by rising ticket are a legal list of the plan's graph with
-//! each event once a vector. So are the firings of windows, one after another (`laws`). `run_to`
-//! has each worker stop after so many firings: they are a legal list, and what is stored is what
-//! firing stores by that list. Nothing is promised of time, or of which worker fires what.
+//! number of its producer, and from those that the scratch has learnt. `ConeGroups` has the groups
+//! of tables that it sets, for all windows of a plan. `run` has workers fire the events
+//! (`ds_runner::run`), and its record tells of every node that it stored the rows of the clocked
+//! run, and that the firings by rising ticket are a legal list of the plan's graph with each event
+//! once a vector. So are the firings of windows, one after another (`laws`). `run_to` has each
+//! worker stop after so many firings: they are a legal list, and what is stored is what firing
+//! stores by that list. Nothing is promised of time, or of which worker fires what.
 //!
 //! The trace and the log of a plan that workers have run. `write_window` runs a window of the
 //! vectors, from any registers and turn on, with so many workers, and writes the trace of what its
@@ -24,6 +25,7 @@
 //! written with a log is read as one.
 #![tactic(auto)]
 
+mod cone_groups;
 mod edges;
 mod end;
 mod foreseen;
@@ -51,6 +53,7 @@ mod trace_rows;
 mod turn_range;
 mod window;
 
+pub use cone_groups::ConeGroups;
 pub use ds_runner::WorkerSettings;
 pub use end::end_run;
 pub use foreseen::Foreseen;

@@ -1,13 +1,12 @@
 //! What computes the rows of a run.
 ghost use Rattle.std.specs.Prelude.{◌≡◌, length, IfOk};
 ghost use Rattle.ds_design.specs.Circuit.{columns};
-ghost use Rattle.ds_design.specs.InRange.{IsInRange};
-ghost use Rattle.ds_latch.specs.Plan.{IsSplit};
 ghost use Rattle.ds_opening.specs.Learnt.{is_learnt as row_is_learnt};
-ghost use Rattle.ds_opening.specs.Noted.{AreConeGroups};
+ghost use Rattle.ds_run.specs.Openings.{HasConeGroups};
 ghost use Rattle.ds_run.specs.RunOfPlan.{IsRunOf};
 ghost use Rattle.ds_rule.specs.Sound.{IsSound};
 
+use crate::cone_groups::ConeGroups;
 use crate::foreseen::Foreseen;
 use crate::known::are_known;
 use crate::starts::starts_of;
@@ -15,11 +14,10 @@ use ds_base::{LatchId, OutOfMemory, Row3, Scratch};
 use ds_design::Vectors;
 use ds_fabric::Compute;
 use ds_latch::{Latches, Node, Plan};
-use ds_opening::{Opening, TableGroups, groups_of, is_learnt, open};
+use ds_opening::{Opening, is_learnt, open};
 use ds_rule::TableRun;
-use ds_settle::Cone;
-use ds_split::{cone_place, cones_of};
-use std::alloc::{AllocError, Global};
+use ds_split::cone_place;
+use std::alloc::Global;
 use std::marker::Model;
 
 /// Computes the rows of a run from its plan: the groups of the tables that the nodes settle, and
@@ -28,9 +26,7 @@ pub struct Openings<'a, 'n> {
     run: &'a TableRun<Foreseen<'a, 'n>>,
     latches: &'a Latches<'n>,
     vectors: &'a Vectors,
-    groups: TableGroups<'n>,
-    // How many tables and sources the cones of OUT, M0, M1, .. have.
-    sizes: Vec<u64>,
+    cones: &'a ConeGroups<'n>,
     // The places of the tables, each behind those that it reads. Contracts alone read them.
     order: &'n [u32],
     starts: Vec<Row3>,
@@ -44,8 +40,7 @@ impl<'a, 'n> Drop for Openings<'a, 'n> {
             run: _,
             latches: _,
             vectors: _,
-            groups: _,
-            sizes: _,
+            cones: _,
             order: _,
             starts: _,
             known: _,
@@ -61,23 +56,25 @@ impl<'a, 'n> Model for Openings<'a, 'n> {
 
     ghost view = { λ w. record {
       run = w.run.now;
-      memory = memory_of w.latches.now w.groups w.order.now w.vectors.now.rows;
-      groups = length w.groups.groups;
+      memory = memory_of w.latches.now w.cones.now.groups w.order.now w.vectors.now.rows;
+      groups = length w.cones.now.groups.groups;
     } };
 
-    ghost invariant = { λ w. AreOpeningsWith w.latches.now w.vectors.now w.run.now w.groups
-        w.order.now w.starts.items w.known };
+    ghost invariant = { λ w. AreOpeningsWith w.latches.now w.vectors.now w.run.now
+        w.cones.now.groups w.order.now w.starts.items w.known };
 }
 
 impl<'a, 'n> Openings<'a, 'n> {
-    /// Of a plan, its vectors, and its run on them.
+    /// Of a plan, the groups of its cones, its vectors, and its run on them.
     pub fn of(
         alloc: Global,
         plan: &'a Plan<'n>,
+        cones: &'a ConeGroups<'n>,
         vectors: &'a Vectors,
         run: &'a TableRun<Foreseen<'a, 'n>>,
     ) -> Result<Self, OutOfMemory>
         requires width { vectors.now.width ≡ length (columns plan.now.split.circuit) }
+        requires cones { HasConeGroups plan.now.split cones.now.groups }
         requires run { IsRunOf plan.now vectors.now.rows run.now }
         requires sound { IsSound run.now }
         ensures ok { IfOk result (λ w. w.run ≡ run.now) }
@@ -87,14 +84,12 @@ impl<'a, 'n> Openings<'a, 'n> {
         // width.
         let (_design, order) = (latches.netlist().design(), latches.netlist().order());
         let _count = vectors.count();
-        let (groups, sizes) = grouped(alloc, latches)?;
         let starts = starts_of(alloc, latches.initial(), latches.clusters())?;
         Ok(Openings {
             run,
             latches,
             vectors,
-            groups,
-            sizes,
+            cones,
             order,
             starts,
             known: are_known(latches, vectors),
@@ -111,7 +106,11 @@ impl<'a, 'n> Compute for Openings<'a, 'n> {
 
     fn scratch(&self, alloc: Global) -> Result<Scratch, OutOfMemory> {
         let nets = self.latches.netlist().design().nets().len();
-        Scratch::of(alloc, nets, self.groups.count() + self.latches.nodes())
+        Scratch::of(
+            alloc,
+            nets,
+            self.cones.groups.count() + self.latches.nodes(),
+        )
     }
 
     fn cost(&self, node: LatchId) -> u64 {
@@ -119,10 +118,10 @@ impl<'a, 'n> Compute for Openings<'a, 'n> {
             Node::In | Node::Slave(_) => return 0,
             Node::Out | Node::Master(_) => cone_place(node),
         };
-        if place >= self.sizes.len() {
+        if place >= self.cones.sizes.len() {
             return 0;
         }
-        self.sizes[place]
+        self.cones.sizes[place]
     }
 
     fn first(&self, node: LatchId, i: usize) -> u64 {
@@ -135,7 +134,7 @@ impl<'a, 'n> Compute for Openings<'a, 'n> {
     }
 
     fn has_learnt(&self, producer: LatchId, turn: u64, scratch: &Scratch) -> bool {
-        is_learnt(&self.groups, scratch, producer, turn)
+        is_learnt(&self.cones.groups, scratch, producer, turn)
     }
 
     fn compute(
@@ -155,34 +154,10 @@ impl<'a, 'n> Compute for Openings<'a, 'n> {
         open(
             self.latches,
             self.vectors,
-            &self.groups,
+            &self.cones.groups,
             &opening,
             scratch,
             into,
         );
     }
-}
-
-// The groups of the tables that the nodes settle, and how many tables and sources each cone has.
-fn grouped<'n>(
-    alloc: Global,
-    latches: &Latches<'n>,
-) -> Result<(TableGroups<'n>, Vec<u64>), OutOfMemory>
-    requires { IsInRange latches.now.circuit × IsSplit latches.now }
-    ensures { IfOk result (λ r. AreConeGroups latches.now r.0) }
-{
-    let cones = cones_of(alloc, latches)?;
-    let sizes = sizes_of(alloc, cones.as_slice())?;
-    let groups = groups_of(alloc, latches, cones)?;
-    Ok((groups, sizes))
-}
-
-// How many tables and sources each cone has.
-fn sizes_of(alloc: Global, cones: &[Cone]) -> Result<Vec<u64>, AllocError> {
-    cones.iter().map(|cone| size_of_cone(cone)).collect(alloc)
-}
-
-// The same of one cone.
-fn size_of_cone(cone: &Cone) -> u64 {
-    (cone.tables().len() as u64).saturating_add(cone.sources().len() as u64)
 }

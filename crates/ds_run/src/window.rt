@@ -8,12 +8,15 @@ ghost use Rattle.ds_run.specs.Appends.{EndsLines};
 ghost use Rattle.ds_run.specs.TraceRows.{HasLine};
 ghost use Rattle.ds_run.specs.Logged.{LogGrows};
 ghost use Rattle.ds_run.specs.Finished.{IsFinished};
+ghost use Rattle.ds_run.specs.Openings.{HasConeGroups};
 
+use crate::WorkerSettings;
+use crate::cone_groups::ConeGroups;
 use crate::log::Log;
+use crate::run_plan::run_with;
 use crate::stored_turns::StoredTurns;
 use crate::trace::write_turns;
 use crate::trace_rows::TraceRows;
-use crate::{WorkerSettings, run};
 use ds_base::{OutOfMemory, Row3};
 use ds_clocked::SimFault;
 use ds_design::Vectors;
@@ -22,11 +25,12 @@ use ds_latch::Plan;
 use ds_outside::{Gate, Sink};
 use std::thread::Threads;
 
-/// A plan begun with the registers before the window, the vectors of the window, and the number of
-/// its first turn in the whole run.
+/// A plan begun with the registers before the window, the groups of its cones, the vectors of the
+/// window, and the number of its first turn in the whole run.
 #[derive(Clone, Copy)]
 pub struct RunWindow<'a, 'n> {
     pub plan: &'a Plan<'n>,
+    pub cones: &'a ConeGroups<'n>,
     pub vectors: &'a Vectors,
     pub first: u64,
 }
@@ -43,6 +47,7 @@ pub fn write_window<R: AllocGlobal + Threads + Sync, G: Gate, O: Sink>(
 ) -> Result<Row3, SimFault>
     requires width { window.now.vectors.now.width
         ≡ length (columns window.now.plan.now.split.circuit) }
+    requires cones { HasConeGroups window.now.plan.now.split window.now.cones.now.groups }
     requires few { window.now.first + length window.now.vectors.now.rows < 2 ^ 64 }
     requires jobs { (0 < workers.now.jobs) × (workers.now.jobs ≤ 64) }
 
@@ -89,13 +94,14 @@ fn fire_window<R: AllocGlobal + Threads + Sync, G: Gate>(
 ) -> Result<Record, OutOfMemory>
     requires width { window.now.vectors.now.width
         ≡ length (columns window.now.plan.now.split.circuit) }
+    requires cones { HasConeGroups window.now.plan.now.split window.now.cones.now.groups }
     requires jobs { (0 < workers.now.jobs) × (workers.now.jobs ≤ 64) }
     ensures ok { IfOk result (IsFinished window.now.plan.now window.now.vectors.now.rows) }
     ensures ok_log { OnOk result (LogGrows window.now.plan.now.graph
         (length window.now.vectors.now.rows) log.old log.new) }
     ensures same { OnErr result (log.new ≡ log.old) }
 {
-    let recorded = run(window.plan, window.vectors, workers)?;
+    let recorded = run_with(window.plan, window.cones, window.vectors, workers)?;
     match log {
         Some(log) => log.take(workers.threads.alloc(), window, &recorded)?,
         None => {}

@@ -8,6 +8,8 @@ use Rattle.ds_latch.specs.Plan.{Planned}
 use Rattle.ds_marked.specs.Graph.{Graph}
 use Rattle.ds_clocked.specs.Appends.{AppendsLines, AppendsLinesPart}
 use Rattle.ds_run.specs.Logged.{IsLogOf, LogGrows}
+use Rattle.ds_run.specs.Openings.{HasConeGroups}
+use Rattle.ds_run.proofs.WindowGroups.{groups_begun}
 use Rattle.ds_run.proofs.WindowTexts.{logs_go_on}
 use Rattle.ds_stage.specs.declared.stop.Stop.TheVariants.{Unwritten}
 use Rattle.ds_stage.specs.Ends.{RoseIn, output_between}
@@ -31,8 +33,9 @@ windows-init g c =
       never_fell = omega arith;
       circuit = refl;
       graph = refl;
+      cones = c.in_ok-log.ensures.cones;
       few = omega arith;
-      logged = c.in_ok-log.ensures;
+      logged = c.in_ok-log.ensures.log;
       so_far = none_so_far (g.F.Files.held c.args.files.now) c.as_str-vec.result.now c.args.plan.now.split.circuit (most_vectors c.args.job.now.log) c.reader_for-reader.result
           c.args.plan.now.split.initial (g.O.Sink.written c.args.out.now) (record { width = is.width; most_is = is.most }) is.given (is.fits (g.F.Files.held c.args.files.now c.as_str-vec.result.now)) c.requires.start;
     }
@@ -115,6 +118,8 @@ windows-preserved g c =
       never_fell = omega (arith, kept.never_fell, c.in-Ok.ensures.never_falls);
       circuit = ap (λ (q : Planned). q.split.circuit) begun_is ∙ kept.circuit;
       graph = ap (λ (q : Planned). q.graph) begun_is ∙ kept.graph;
+      cones = subst (λ (q : Planned). HasConeGroups q.split c.in_ok-log.cones.groups) (sym begun_is)
+          (groups_begun c.windows.plan.split c.in-Ok.row c.in_ok-log.cones.groups kept.cones);
       few = omega (arith, c.given-first.ensures.few, most_is);
       logged = subst (λ (n : ℕ). IsLogOf log p.graph n c.write_window.new.log) (sym first_is)
           (logs_go_on p.graph c.graph-graph.ensures.accepted.live log c.windows.first (length next) c.windows.log c.write_window.new.log kept.logged
@@ -143,8 +148,8 @@ returns-in-Ok-end_traced g c =
       same_writes = writes.ok_same ∙ kept.same_writes;
     }
 
-pub returns-in-Err-end_traced : goal.returns-in-Err-end_traced
-returns-in-Err-end_traced g c =
+pub returns : goal.returns
+returns g c =
     let p : Planned = c.args.plan.now in
     let log : Bool = c.args.job.now.log in
     let kept = c.windows.invariant in

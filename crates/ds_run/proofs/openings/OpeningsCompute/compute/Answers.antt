@@ -24,14 +24,14 @@ pub open-requires-clause-opening : goal.open-requires-clause-opening
 open-requires-clause-opening c = let (some, most) = c.requires.turn in
     let run_is = ap (λ (m : RunWithMemory). m.run) c.self.view_is in
     let memory_is = ap (λ (m : RunWithMemory). m.memory) c.self.view_is in
-    let groups_are : length c.self.inside.groups.groups ≡ c.args.self.now.groups = ap (λ (m : RunWithMemory). m.groups) c.self.view_is in
-    let learnt : ℕ → Bool = is_learnt (length c.self.inside.groups.groups) c.args.scratch.now c.args.turn in
-    let from = counted c.args.self.now.run c.args.self.now.groups (length c.self.inside.groups.groups)
+    let groups_are : length c.self.inside.cones.now.groups.groups ≡ c.args.self.now.groups = ap (λ (m : RunWithMemory). m.groups) c.self.view_is in
+    let learnt : ℕ → Bool = is_learnt (length c.self.inside.cones.now.groups.groups) c.args.scratch.now c.args.turn in
+    let from = counted c.args.self.now.run c.args.self.now.groups (length c.self.inside.cones.now.groups.groups)
     groups_are c.args.scratch.now c.args.node c.args.turn c.args.from.now c.requires.from in
     let o = opens_at c.self.invariant.openings (sym run_is) refl some c.requires.node most learnt c.args.from.now from in (
       o.node,
       o.turn,
-      memory_of c.self.inside.latches.now c.self.inside.groups c.self.inside.order.now c.self.inside.vectors.now.rows,
+      memory_of c.self.inside.latches.now c.self.inside.cones.now.groups c.self.inside.order.now c.self.inside.vectors.now.rows,
       noted c.self.invariant.openings (sym run_is) some most c.args.scratch.now o _ refl refl refl c.self.invariant.known
           (subst (λ (m : Memory). Remembers m c.args.scratch.now) (sym memory_is) c.requires.remembers),
     )
@@ -48,13 +48,13 @@ pub returns-clause-value : goal.returns-clause-value
 returns-clause-value c = let (some, most) = c.requires.turn in
     let run_is = ap (λ (m : RunWithMemory). m.run) c.self.view_is in
     let memory_is = ap (λ (m : RunWithMemory). m.memory) c.self.view_is in
-    let groups_are : length c.self.inside.groups.groups ≡ c.args.self.now.groups = ap (λ (m : RunWithMemory). m.groups) c.self.view_is in
-    let learnt : ℕ → Bool = is_learnt (length c.self.inside.groups.groups) c.args.scratch.now c.args.turn in
-    let from = counted c.args.self.now.run c.args.self.now.groups (length c.self.inside.groups.groups)
+    let groups_are : length c.self.inside.cones.now.groups.groups ≡ c.args.self.now.groups = ap (λ (m : RunWithMemory). m.groups) c.self.view_is in
+    let learnt : ℕ → Bool = is_learnt (length c.self.inside.cones.now.groups.groups) c.args.scratch.now c.args.turn in
+    let from = counted c.args.self.now.run c.args.self.now.groups (length c.self.inside.cones.now.groups.groups)
     groups_are c.args.scratch.now c.args.node c.args.turn c.args.from.now c.requires.from in
     let o = opens_at c.self.invariant.openings (sym run_is) refl some c.requires.node most learnt c.args.from.now from in
     let row_is = gives_row c.self.invariant.openings (sym run_is) refl some in
-    c.open.ensures.value o.node o.turn (memory_of c.self.inside.latches.now c.self.inside.groups c.self.inside.order.now c.self.inside.vectors.now.rows)
+    c.open.ensures.value o.node o.turn (memory_of c.self.inside.latches.now c.self.inside.cones.now.groups c.self.inside.order.now c.self.inside.vectors.now.rows)
     (noted c.self.invariant.openings (sym run_is) some most c.args.scratch.now o _ refl refl refl c.self.invariant.known
     (subst (λ (m : Memory). Remembers m c.args.scratch.now) (sym memory_is) c.requires.remembers))
     ∙ ap (λ (ws : List ℕ). c.args.into.now.items ++ ws) (o.gives ∙ row_is)
@@ -63,12 +63,12 @@ pub returns-clause-remembers : goal.returns-clause-remembers
 returns-clause-remembers c = let (some, most) = c.requires.turn in
     let run_is = ap (λ (m : RunWithMemory). m.run) c.self.view_is in
     let memory_is = ap (λ (m : RunWithMemory). m.memory) c.self.view_is in
-    let groups_are : length c.self.inside.groups.groups ≡ c.args.self.now.groups = ap (λ (m : RunWithMemory). m.groups) c.self.view_is in
-    let learnt : ℕ → Bool = is_learnt (length c.self.inside.groups.groups) c.args.scratch.now c.args.turn in
-    let from = counted c.args.self.now.run c.args.self.now.groups (length c.self.inside.groups.groups)
+    let groups_are : length c.self.inside.cones.now.groups.groups ≡ c.args.self.now.groups = ap (λ (m : RunWithMemory). m.groups) c.self.view_is in
+    let learnt : ℕ → Bool = is_learnt (length c.self.inside.cones.now.groups.groups) c.args.scratch.now c.args.turn in
+    let from = counted c.args.self.now.run c.args.self.now.groups (length c.self.inside.cones.now.groups.groups)
     groups_are c.args.scratch.now c.args.node c.args.turn c.args.from.now c.requires.from in
     let o = opens_at c.self.invariant.openings (sym run_is) refl some c.requires.node most learnt c.args.from.now from in
     subst (λ (m : Memory). Remembers m c.open.new.scratch) memory_is
-    (c.open.ensures.remembers o.node o.turn (memory_of c.self.inside.latches.now c.self.inside.groups c.self.inside.order.now c.self.inside.vectors.now.rows)
+    (c.open.ensures.remembers o.node o.turn (memory_of c.self.inside.latches.now c.self.inside.cones.now.groups c.self.inside.order.now c.self.inside.vectors.now.rows)
     (noted c.self.invariant.openings (sym run_is) some most c.args.scratch.now o _ refl refl refl c.self.invariant.known
     (subst (λ (m : Memory). Remembers m c.args.scratch.now) (sym memory_is) c.requires.remembers)))

@@ -10,7 +10,7 @@ use Rattle.ds_run.proofs.openings.OpeningsCompute.has_learnt.Goals as goal
 pub is_learnt-requires : goal.is_learnt-requires
 is_learnt-requires c =
     let s : Split = c.self.inside.latches.now in
-    let m : Memory = memory_of s c.self.inside.groups c.self.inside.order.now c.self.inside.vectors.now.rows in
+    let m : Memory = memory_of s c.self.inside.cones.now.groups c.self.inside.order.now c.self.inside.vectors.now.rows in
     let memory_is : m ≡ c.args.self.now.memory = ap (λ (x : RunWithMemory). x.memory) c.self.view_is in
     let run_is = ap (λ (x : RunWithMemory). x.run) c.self.view_is in
     let latches : c.args.self.now.run.design_nodes ≡ nodes s =
@@ -21,7 +21,7 @@ is_learnt-requires c =
       latches,
       c.requires.remembers.turns,
       ap (λ (x : Memory). length x.slots) memory_is,
-      slots_long s c.self.invariant.openings.split c.self.inside.groups,
+      slots_long s c.self.invariant.openings.split c.self.inside.cones.now.groups,
     )
 
 pub returns : goal.returns

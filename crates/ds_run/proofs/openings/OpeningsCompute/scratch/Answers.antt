@@ -18,11 +18,11 @@ pub returns : goal.returns
 returns c =
     let s : Split = c.self.inside.latches.now in
     let memory_is = ap (λ (m : RunWithMemory). m.memory) c.self.view_is in
-    let m : Memory = memory_of s c.self.inside.groups c.self.inside.order.now c.self.inside.vectors.now.rows in
+    let m : Memory = memory_of s c.self.inside.cones.now.groups c.self.inside.order.now c.self.inside.vectors.now.rows in
     let nets : length s.circuit.nets ≡ length c.nets-nets.result.now =
     sym (ap (λ (ns : List Net). length ns) c.nets-nets.ensures ∙ ap (λ (d : Circuit). length d.nets) (c.design.ensures.design ∙ c.netlist.ensures.netlist)) in
-    let slots : length (slots_of s c.self.inside.groups) ≡ c.count.result + c.nodes.result =
-    slots_long s c.self.invariant.openings.split c.self.inside.groups ∙ omega (c.count.ensures.value, c.nodes.ensures.nodes, arith) in
+    let slots : length (slots_of s c.self.inside.cones.now.groups) ≡ c.count.result + c.nodes.result =
+    slots_long s c.self.invariant.openings.split c.self.inside.cones.now.groups ∙ omega (c.count.ensures.value, c.nodes.ensures.nodes, arith) in
     if_ok c.of.result (λ k. (m : Memory) → m.nets ≡ length c.nets-nets.result.now → length m.slots ≡ c.count.result + c.nodes.result → Remembers m k)
     (Remembers c.args.self.now.memory)
     (λ k remembers. subst (λ (m : Memory). Remembers m k) memory_is (remembers m nets slots))

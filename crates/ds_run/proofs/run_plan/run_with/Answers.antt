@@ -3,7 +3,7 @@ use Rattle.std.proofs.lemmas.Result.{IfOk-weaker}
 use Rattle.ds_run.specs.Halted.{IsWorked}
 use Rattle.ds_run.specs.Finished.{IsFinished}
 use Rattle.ds_run.proofs.Halted.{played_worked}
-use Rattle.ds_run.proofs.run_plan.run.Goals as goal
+use Rattle.ds_run.proofs.run_plan.run_with.Goals as goal
 
 pub returns : goal.returns
 returns g c = record {
