@@ -115,9 +115,10 @@ def wholes(folder):
         files = workers.circuit(folder, turns, name)
         yield name + told, files, bus
         yield name + ", one value in a hundred unknown", with_unknown(files), bus
-    for turns in (10000, 65000):
-        told = "20 stages, no feedback, %s vectors" % format(turns, ",")
-        yield told, workers.pipeline(folder, turns, 20, 25, 20), bus
+    for width, stages, levels in ((20, 25, 20), (50, 20, 20)):
+        tables = format(width * stages * levels, ",")
+        told = "%d stages, %s tables, no feedback, 10,000 vectors" % (stages, tables)
+        yield told, workers.pipeline(folder, 10000, width, stages, levels), bus
     small = os.path.join(folder, "each")
     os.mkdir(small)
     yield "mul32, %s, 10,000 vectors" % EACH, workers.circuit(small, 10000, "mul32"), []
